@@ -1,0 +1,41 @@
+-- A page of items (the layout at the head of bufpage.h): header, line pointers, hole, items, special space. The items
+-- are placed downwards from the special space in the order of their line pointers.
+use Rattle.std.specs.Prelude.{ℕ, ◌+◌, ◌-◌, ◌*◌, List, [], ◌∷◌, ◌++◌, length}
+use Rattle.pg_bytes.specs.Numbers.{number_bytes, rounded_up}
+use Rattle.pg_bytes.specs.Places.{zeros}
+use Rattle.pg_bytes.specs.PageLayout.{page_header, aligned, normal_word}
+
+-- the bytes that an item takes
+abbrev pub space_of : List ℕ → ℕ
+space_of item = rounded_up 8 (length item)
+
+-- the bytes that items take together
+abbrev pub space_taken : List (List ℕ) → ℕ
+space_taken [] = 0
+space_taken (item ∷ items) = space_of item + space_taken items
+
+-- the line pointers of items that are placed downwards from an end
+abbrev pub line_pointers : ℕ → List (List ℕ) → List ℕ
+line_pointers end [] = []
+line_pointers end (item ∷ items) =
+    number_bytes 4 (normal_word (end - space_of item) (length item)) ++ line_pointers (end - space_of item) items
+
+-- the items as they stand, the last one lowest
+abbrev pub placed_items : List (List ℕ) → List ℕ
+placed_items [] = []
+placed_items (item ∷ items) = placed_items items ++ aligned item
+
+-- where the line pointers end, and where the items begin
+abbrev pub lower_at : List (List ℕ) → ℕ
+lower_at items = 24 + 4 * length items
+
+abbrev pub upper_at : List ℕ → List (List ℕ) → ℕ
+upper_at special items = 8192 - length special - space_taken items
+
+-- the page of these items with this special space
+unfoldable pub item_page : List ℕ → List (List ℕ) → List ℕ
+item_page special items =
+    page_header (lower_at items) (upper_at special items) (8192 - length special)
+    ++ (line_pointers (8192 - length special) items
+    ++ (zeros (upper_at special items - lower_at items)
+    ++ (placed_items items ++ special)))

@@ -1,0 +1,6 @@
+pub mod Numbers
+pub mod Places
+pub mod Pointers
+pub mod PageLayout
+pub mod Image
+pub mod ItemPage

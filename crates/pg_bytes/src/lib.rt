@@ -1,0 +1,42 @@
+//! Bytes of PostgreSQL's page files: little-endian numbers, row and line pointers, pages, and the
+//! image of an index file.
+//!
+//! A page is 8,192 bytes. Its header of 24 bytes (`bufpage.h`) says where the line pointers end
+//! (`pd_lower`), where the tuples begin (`pd_upper`) and where the special space begins
+//! (`pd_special`). Line pointers grow upwards from byte 24, tuples grow downwards from the special
+//! space, and the hole between the two is zero.
+//!
+//! The invariant: a `Page` and a `PageBuf` always hold one page's bytes, and an `IndexImage` whole
+//! pages. What the layers above may rely on: each write gives the whole page after it, so all
+//! other bytes are as before.
+#![tactic(auto)]
+
+mod header;
+mod image;
+mod items;
+mod line_ptr;
+mod numbers;
+mod page;
+mod page_buf;
+mod row_ptr;
+
+pub use header::{PD_FLAGS, PD_LOWER, PD_PAGESIZE_VERSION, PD_SPECIAL, PD_UPPER};
+pub use image::IndexImage;
+pub use items::{Bytes, Items, RowPtrs};
+pub use line_ptr::{LinePtr, LineState};
+pub use numbers::{al2, al8, i64_at, u16_at, u32_at};
+pub use page::Page;
+pub use page_buf::PageBuf;
+pub use row_ptr::RowPtr;
+
+/// The bytes of a page (`BLCKSZ`).
+pub const PAGE: usize = 8192;
+
+/// Where a page's line pointers begin, behind its header (`SizeOfPageHeaderData`).
+pub const PAGE_HEADER: usize = 24;
+
+/// The bytes of a line pointer (`sizeof(ItemIdData)`).
+pub const LINE_POINTER: usize = 4;
+
+#[cfg(test)]
+mod tests;
