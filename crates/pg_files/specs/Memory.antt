@@ -1,0 +1,123 @@
+-- Files in memory, as callers see them.
+use Rattle.std.specs.Prelude.{◌≡◌, ℕ, ◌+◌, ◌-◌, ◌++◌, min, List, [], take, drop, length, Option, None, Some, Bool, nat_eq, find, cond, option_map}
+use Rattle.std.specs.List.{list_any}
+use Rattle.std.specs.Str.{bytes_eq}
+use Rattle.std.specs.String.{string_bytes}
+use Rattle.pg_files.specs.Faults.{most_faults}
+use Rattle.pg_files.specs.Told.{FileMap}
+use Rattle.pg_files.specs.declared.mem_files.MemFile.{MemFile}
+use Rattle.pg_files.specs.declared.mem_files.MemFiles.{MemFiles}
+
+-- whether a file has this name
+abbrev pub is_named : List ℕ → MemFile → Bool
+is_named name file = bytes_eq (string_bytes file.name) name
+
+-- the bytes of each file of a list
+abbrev pub file_map : List MemFile → FileMap
+file_map files name = option_map (λ (file : MemFile). file.bytes.items) (find (is_named name) files)
+
+-- all that files in memory tell
+pub record Memory : Type 0 where
+  -- the bytes of each file
+  pub files : FileMap
+  -- the bytes said so far
+  pub said : List ℕ
+  -- the numbers of the calls that are set to fail
+  pub failing : List ℕ
+  -- how many calls were made
+  pub calls : ℕ
+  -- how many of each kind failed
+  pub read_faults : ℕ
+  pub write_faults : ℕ
+  pub say_faults : ℕ
+  -- how many failed for want of memory
+  pub refused : ℕ
+
+abbrev pub memory : MemFiles → Memory
+memory m = record {
+  files = file_map m.files.items;
+  said = m.said.items;
+  failing = m.failing.items;
+  calls = m.calls;
+  read_faults = m.read_faults;
+  write_faults = m.write_faults;
+  say_faults = m.say_faults;
+  refused = m.refused;
+}
+
+-- the same as the trait `Files` sees it, with one count of each kind for all names
+abbrev pub files_told : MemFiles → Option FileMap
+files_told m = Some (memory m).files
+
+abbrev pub said_told : MemFiles → Option (List ℕ)
+said_told m = Some (memory m).said
+
+abbrev pub read_counts : MemFiles → List ℕ → ℕ
+read_counts m name = (memory m).read_faults
+
+abbrev pub write_counts : MemFiles → List ℕ → ℕ
+write_counts m name = (memory m).write_faults
+
+abbrev pub say_count : MemFiles → ℕ
+say_count m = (memory m).say_faults
+
+-- no files, and nothing counted
+abbrev pub fresh : Memory
+fresh = record {
+  files = λ _. None;
+  said = [];
+  failing = [];
+  calls = 0;
+  read_faults = 0;
+  write_faults = 0;
+  say_faults = 0;
+  refused = 0;
+}
+
+-- other files, and all else as it is
+abbrev pub with_files : FileMap → Memory → Memory
+with_files files m = record m { files = files }
+
+-- a number after it was raised
+abbrev pub raised : ℕ → ℕ
+raised n = min (n + 1) most_faults
+
+-- whether the next call is set to fail
+abbrev pub is_set_to_fail : Memory → Bool
+is_set_to_fail m = list_any (λ (call : ℕ). nat_eq call (raised m.calls)) m.failing
+
+-- after one more call
+abbrev pub called : Memory → Memory
+called m = record m { calls = raised m.calls }
+
+-- one more failure of each kind
+abbrev pub with_read_fault : Memory → Memory
+with_read_fault m = record m { read_faults = raised m.read_faults }
+
+abbrev pub with_write_fault : Memory → Memory
+with_write_fault m = record m { write_faults = raised m.write_faults }
+
+abbrev pub with_say_fault : Memory → Memory
+with_say_fault m = record m { say_faults = raised m.say_faults }
+
+-- one more call that found no memory
+abbrev pub with_refusal : Memory → Memory
+with_refusal m = record m { refused = raised m.refused }
+
+-- a call that takes memory and failed: it was set to fail, or found none
+abbrev pub refused_unless_set : Memory → Memory
+refused_unless_set m = cond (is_set_to_fail m) (called m) (with_refusal (called m))
+
+-- how many bytes of a file a read gives from a place on: as many as there are and as fit
+abbrev pub read_count : List ℕ → ℕ → List ℕ → ℕ
+read_count bytes place buffer = min (length buffer) (length bytes - place)
+
+-- the buffer after such a read, as before behind what came
+abbrev pub read_over : List ℕ → ℕ → List ℕ → List ℕ
+read_over bytes place buffer =
+    take (read_count bytes place buffer) (drop place bytes) ++ drop (read_count bytes place buffer) buffer
+
+-- what a read of a file that is there gives
+abbrev pub IsReadOf : Option (List ℕ) → ℕ → ℕ → List ℕ → List ℕ → Type 0
+IsReadOf None place count old new = ⊥
+IsReadOf (Some bytes) place count old new = (count ≡ read_count bytes place old) × (new ≡ read_over bytes place old)
