@@ -1,0 +1,4 @@
+pub mod Sound
+pub mod Overlap
+pub mod Marks
+pub mod Least

@@ -1,0 +1,263 @@
+use crate::check::check_page;
+use crate::header::Header;
+use crate::row_state::{RowState, state};
+use crate::view::View;
+use pg_bytes::{Page, PageBuf, RowPtr};
+use std::alloc::Global;
+use std::process::Abort;
+use std::test::Fail;
+
+// Writes bytes at a place of the page.
+fn put(rt: &impl Abort, page: &mut PageBuf, place: usize, bytes: &[u8]) {
+    assert!(rt; bytes.len() <= 8192);
+    assert!(rt; place <= 8192 - bytes.len());
+    page.put_slice(place, bytes);
+}
+
+// A page of rows of one int4 each, with these infomasks: row k stands 32 * k bytes below the page's
+// end, under line pointer k.
+fn page_of_rows(rt: &impl Abort, alloc: Global, infomasks: &[u16]) -> Result<PageBuf, Fail> {
+    let mut page = PageBuf::new(alloc, 8)?;
+    assert!(rt; infomasks.len() <= 100);
+    let rows = infomasks.len() as u16;
+    put(rt, &mut page, 12, &(24 + 4 * rows).to_le_bytes());
+    put(rt, &mut page, 14, &(8192 - 32 * rows).to_le_bytes());
+    put(rt, &mut page, 16, &[0x00, 0x20, 0x04, 0x20]);
+    for (row, infomask) in infomasks.iter().enumerate() {
+        put_row(rt, &mut page, row, *infomask);
+    }
+    Ok(page)
+}
+
+// Row k of such a page, counted from 0.
+fn put_row(rt: &impl Abort, page: &mut PageBuf, row: usize, infomask: u16) {
+    assert!(rt; row < 100);
+    let place = 8160 - 32 * row;
+    put(
+        rt,
+        page,
+        24 + 4 * row,
+        &(0x0038_8000 + place as u32).to_le_bytes(),
+    );
+    put(rt, page, place, &[0xBC, 0x02, 0, 0]);
+    put(rt, page, place + 16, &[row as u8 + 1, 0, 1, 0]);
+    put(rt, page, place + 20, &infomask.to_le_bytes());
+    put(rt, page, place + 22, &[24, 0]);
+}
+
+// The page that was written, to be read.
+fn written(buffer: &PageBuf) -> Page<'_> {
+    match Page::of(buffer.bytes()) {
+        Some(page) => page,
+        None => unreachable!(),
+    }
+}
+
+// What the check says of a page of one column: how many lines it has, or the fault's item and cause.
+fn verdict(page: &PageBuf) -> Result<u16, (u16, u8)> {
+    match check_page(&written(page), 1) {
+        Ok(view) => Ok(view.lines()),
+        Err(fault) => Err((fault.item, fault.cause)),
+    }
+}
+
+#[test]
+fn tells_the_least_fault(rt: HostRuntime) -> Result<(), Fail> {
+    let cases: [(&str, usize, &[u8], Result<u16, (u16, u8)>); 25] = [
+        ("as it is", 12, &[0x24, 0x00], Ok(3)),
+        ("pd_lower in the header", 12, &[23, 0], Err((0, 1))),
+        ("pd_lower within a line pointer", 12, &[39, 0], Ok(3)),
+        ("a new page", 14, &[0, 0], Ok(0)),
+        ("a flag that is none", 10, &[8, 0], Err((0, 1))),
+        ("a special space", 16, &[0xF8, 0x1F], Err((0, 1))),
+        ("a dead line pointer", 28, &[0x00, 0x80, 0x01, 0x00], Ok(3)),
+        (
+            "a redirect to 0",
+            28,
+            &[0x00, 0x00, 0x01, 0x00],
+            Err((2, 2)),
+        ),
+        (
+            "a redirect past the last",
+            28,
+            &[0x04, 0x00, 0x01, 0x00],
+            Err((2, 2)),
+        ),
+        ("a redirect to itself", 28, &[0x02, 0x00, 0x01, 0x00], Ok(3)),
+        (
+            "a redirect to the last",
+            28,
+            &[0x03, 0x00, 0x01, 0x00],
+            Ok(3),
+        ),
+        ("offset 8097", 32, &[0xA1, 0x9F, 0x38, 0x00], Err((3, 2))),
+        (
+            "length 40 past the end",
+            24,
+            &[0xE0, 0x9F, 0x50, 0x00],
+            Err((1, 2)),
+        ),
+        (
+            "length 36 into the next",
+            32,
+            &[0xA0, 0x9F, 0x48, 0x00],
+            Err((3, 2)),
+        ),
+        ("length 23", 24, &[0xE0, 0x9F, 0x2E, 0x00], Err((1, 2))),
+        (
+            "the same place twice",
+            28,
+            &[0xE0, 0x9F, 0x38, 0x00],
+            Err((2, 2)),
+        ),
+        (
+            "above the tuples' lower end",
+            14,
+            &[0xA8, 0x1F],
+            Err((3, 2)),
+        ),
+        ("hoff 28", 8128 + 22, &[28], Err((2, 3))),
+        ("hoff 32 of length 28", 8160 + 22, &[32], Err((1, 3))),
+        ("two attributes", 8128 + 18, &[2, 0], Err((2, 3))),
+        ("nulls and a bitmap", 8160 + 20, &[0x01, 0x09, 24, 0], Ok(3)),
+        ("not settled", 8096 + 20, &[0x00, 0x08], Err((3, 4))),
+        (
+            "hoff before settled",
+            8096 + 20,
+            &[0x00, 0x08, 16],
+            Err((3, 3)),
+        ),
+        (
+            "the lesser item",
+            28,
+            &[0x04, 0x00, 0x01, 0x00, 0xA1, 0x9F],
+            Err((2, 2)),
+        ),
+        (
+            "the lesser cause",
+            32,
+            &[0xA1, 0x9F, 0x38, 0x00],
+            Err((3, 2)),
+        ),
+    ];
+    for (name, place, bytes, wanted) in cases {
+        let mut page = page_of_rows(&rt, rt.alloc(), &[0x0900; 3])?;
+        put(&rt, &mut page, place, bytes);
+        assert_eq!(rt; verdict(&page), wanted, "{name}");
+    }
+    Ok(())
+}
+
+// A page that holds one byte throughout.
+fn page_of_byte(alloc: Global, byte: u8) -> Result<PageBuf, Fail> {
+    let mut page = PageBuf::new(alloc, 8)?;
+    for place in 0..8192 {
+        page.put_slice(place, &[byte]);
+    }
+    Ok(page)
+}
+
+#[test]
+fn checks_pages_without_rows(rt: HostRuntime) -> Result<(), Fail> {
+    let ones = page_of_byte(rt.alloc(), 0xFF)?;
+    assert_eq!(rt; verdict(&ones), Err((0, 1)));
+
+    let mut unused = page_of_byte(rt.alloc(), 0)?;
+    assert_eq!(rt; verdict(&unused), Ok(0), "new");
+    put(
+        &rt,
+        &mut unused,
+        12,
+        &[0x00, 0x20, 0x00, 0x20, 0x00, 0x20, 0x04, 0x20],
+    );
+    assert_eq!(rt; verdict(&unused), Ok(2042), "unused line pointers");
+    Ok(())
+}
+
+// The header of a tuple with these hint bits.
+fn header_with(infomask: u16) -> Header {
+    Header {
+        xmin: 700,
+        xmax: 900,
+        ctid: RowPtr {
+            block: 0,
+            offset: 1,
+        },
+        infomask2: 1,
+        infomask,
+        hoff: 24,
+    }
+}
+
+#[test]
+fn settles_tuples_by_their_hint_bits(rt: HostRuntime) {
+    let cases = [
+        (0x01C0, Some(RowState::Live)),
+        (0x0140, Some(RowState::Live)),
+        (0x1180, Some(RowState::Live)),
+        (0x0B00, Some(RowState::Live)),
+        (0x0A00, Some(RowState::Dead)),
+        (0x0800, None),
+        (0x0500, Some(RowState::Dead)),
+        (0x2500, Some(RowState::Dead)),
+        (0x0900, Some(RowState::Live)),
+        (0x1100, None),
+        (0x4900, None),
+        (0x01D0, Some(RowState::Live)),
+        (0x0150, None),
+    ];
+    for (infomask, wanted) in cases {
+        let header = header_with(infomask);
+        let known = if header.is_settled() {
+            Some(state(&header))
+        } else {
+            None
+        };
+        assert_eq!(rt; known, wanted, "{infomask:#06x}");
+    }
+}
+
+#[test]
+fn reads_a_page_of_settled_rows(rt: HostRuntime) -> Result<(), Fail> {
+    let unsettled = page_of_rows(
+        &rt,
+        rt.alloc(),
+        &[0x01C0, 0x0140, 0x1180, 0x0B00, 0x0A00, 0x0800],
+    )?;
+    assert_eq!(rt; verdict(&unsettled), Err((6, 4)));
+
+    let settled = page_of_rows(&rt, rt.alloc(), &[0x01C0, 0x0140, 0x1180, 0x0B00, 0x0A00])?;
+    match check_page(&written(&settled), 1) {
+        Ok(view) => reads_the_last_row(&rt, &view),
+        Err(_) => assert!(rt; false, "no fault"),
+    }
+    Ok(())
+}
+
+// The last of five rows, as the page shows it.
+fn reads_the_last_row(rt: &impl Abort, view: &View) {
+    assert_eq!(rt; view.lines(), 5);
+    assert!(rt; !view.is_redirect(5));
+    assert!(rt; view.is_normal(5));
+    let line = view.line(5);
+    assert_eq!(rt; (line.offset, line.state, line.length), (8032, 1, 28));
+    let header = view.header(5);
+    assert_eq!(rt;
+        header,
+        Header {
+            xmax: 0,
+            ctid: RowPtr {
+                block: 0,
+                offset: 5
+            },
+            ..header_with(0x0A00)
+        }
+    );
+    assert!(rt; header.is_settled());
+    assert_eq!(rt; state(&header), RowState::Dead);
+    assert_eq!(rt; header.infomask2_bits().attributes(), 1);
+    assert!(rt; !header.infomask2_bits().is_hot_updated());
+    assert!(rt; !header.infomask2_bits().is_heap_only());
+    assert!(rt; header.infomask_bits().xmin_invalid());
+    assert_eq!(rt; view.item(5).len(), 28);
+}
