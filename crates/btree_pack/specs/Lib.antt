@@ -1,0 +1,3 @@
+pub mod Tuple
+pub mod Page
+pub mod File
