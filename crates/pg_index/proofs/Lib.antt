@@ -1,0 +1,8 @@
+pub mod Faultless
+pub mod ReadOn
+pub mod Growing
+pub mod Swapping
+pub mod Scanning
+pub mod Ending
+pub mod Determined
+pub mod Answering

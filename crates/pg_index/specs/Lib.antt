@@ -1,0 +1,13 @@
+pub mod Words
+pub mod HeapFile
+pub mod IndexFile
+pub mod RowOrder
+pub mod HeapRows
+pub mod Outcome
+pub mod Scan
+pub mod Answer
+pub mod End
+pub mod Report
+pub mod Deliver
+pub mod Run
+pub mod Laws
