@@ -33,9 +33,9 @@ const INDEX_STATEMENT: &str = "CREATE INDEX i ON t (a)";
 /// want of memory once words and statements are in order; every other fault comes exactly where
 /// its clause says.
 ///
-/// A heap comes to one outcome at most (`outcome_is_determined`). So where the files are told, each refusal
-/// comes exactly where its outcome holds, unless the heap can't be read or memory runs out, and a
-/// build without a fault inside or outside ends with status 0 or for want of memory.
+/// A heap comes to one outcome at most (`outcome_is_determined`). So where the files are told, each
+/// refusal comes exactly where its outcome holds, unless the heap can't be read or memory runs out,
+/// and a build without a fault inside or outside ends with status 0 or for want of memory.
 pub fn run<Rt: Threads + Sync, F: Files, G: Gate + Sync>(
     _rt: &Rt,
     alloc: Global,

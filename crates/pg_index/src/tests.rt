@@ -29,7 +29,7 @@ fn files_of(alloc: Global, heap: &[u8]) -> Result<MemFiles, AllocError> {
     Ok(files)
 }
 
-// What a command answers: its status, and the fault's text or what was said.
+// What a command answers: its status, and the fault's text where there is one.
 fn answer_to<Rt: Threads + Sync>(
     rt: &Rt,
     alloc: Global,
