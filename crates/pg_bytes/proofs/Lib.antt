@@ -1,3 +1,4 @@
 pub mod Writes
 pub mod ItemPage
 pub mod Growth
+pub mod LeastFaults

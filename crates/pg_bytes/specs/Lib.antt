@@ -4,3 +4,4 @@ pub mod Pointers
 pub mod PageLayout
 pub mod Image
 pub mod ItemPage
+pub mod LeastFault
