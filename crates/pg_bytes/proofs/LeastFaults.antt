@@ -14,5 +14,5 @@ pub least-fault-is-one : {Cause : Type 0} (number_of : Cause → ℕ) (HasFault 
     → IsLeastFault number_of HasFault item number → IsLeastFault number_of HasFault item' number' → (item ≡ item') × (number ≡ number')
 least-fault-is-one number_of HasFault item number item' number' a b =
     one-place item number item' number'
-        (subst (λ (n : ℕ). IsNotBehind item number item' n) (sym b.told) (a.least item' b.cause b.there))
-        (subst (λ (n : ℕ). IsNotBehind item' number' item n) (sym a.told) (b.least item a.cause a.there))
+    (subst (λ (n : ℕ). IsNotBehind item number item' n) (sym b.told) (a.least item' b.cause b.there))
+    (subst (λ (n : ℕ). IsNotBehind item' number' item n) (sym a.told) (b.least item a.cause a.there))

@@ -3,7 +3,7 @@
 use Rattle.std.specs.Prelude.{ℕ, ◌+◌, ◌-◌, ◌*◌, List, [], ◌∷◌, ◌++◌, length}
 use Rattle.pg_bytes.specs.Numbers.{number_bytes, rounded_up}
 use Rattle.pg_bytes.specs.Places.{zeros}
-use Rattle.pg_bytes.specs.PageLayout.{page_header, aligned, normal_word}
+use Rattle.pg_bytes.specs.PageLayout.{page_size, header_size, line_pointer_size, page_header, aligned, normal_word}
 
 -- the bytes that an item takes
 abbrev pub space_of : List ℕ → ℕ
@@ -27,15 +27,15 @@ placed_items (item ∷ items) = placed_items items ++ aligned item
 
 -- where the line pointers end, and where the items begin
 abbrev pub lower_at : List (List ℕ) → ℕ
-lower_at items = 24 + 4 * length items
+lower_at items = header_size + line_pointer_size * length items
 
 abbrev pub upper_at : List ℕ → List (List ℕ) → ℕ
-upper_at special items = 8192 - length special - space_taken items
+upper_at special items = page_size - length special - space_taken items
 
 -- the page of these items with this special space
 unfoldable pub item_page : List ℕ → List (List ℕ) → List ℕ
 item_page special items =
-    page_header (lower_at items) (upper_at special items) (8192 - length special)
-    ++ (line_pointers (8192 - length special) items
+    page_header (lower_at items) (upper_at special items) (page_size - length special)
+    ++ (line_pointers (page_size - length special) items
     ++ (zeros (upper_at special items - lower_at items)
     ++ (placed_items items ++ special)))

@@ -7,7 +7,8 @@ abbrev pub IsNotBehind : ℕ → ℕ → ℕ → ℕ → Type 0
 IsNotBehind item number item' number' = (item < item') ⊎ ((item ≡ item') × (number ≤ number'))
 
 -- the least of the faults that items have, told by its item and the number of its cause
-pub record IsLeastFault {Cause : Type 0} (number_of : Cause → ℕ) (HasFault : ℕ → Cause → Type 0) (item number : ℕ) : Type 0 where
+pub record IsLeastFault {Cause : Type 0} (number_of : Cause → ℕ) (HasFault : ℕ → Cause → Type 0) (item number : ℕ)
+    : Type 0 where
   pub cause : Cause
   pub told : number ≡ number_of cause
   pub there : HasFault item cause

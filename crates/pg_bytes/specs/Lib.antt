@@ -1,7 +1,16 @@
-pub mod Numbers
+-- Reading order: what a page file is made of, from bytes up.
+
+-- parts of a list of bytes
 pub mod Places
+-- little-endian numbers, and sizes rounded up
+pub mod Numbers
+-- row pointers and line pointers
 pub mod Pointers
+-- the page's header, and the writes into a page
 pub mod PageLayout
-pub mod Image
+-- a page of items as a whole
 pub mod ItemPage
+-- the image of an index file
+pub mod Image
+-- the one fault that is told of many
 pub mod LeastFault

@@ -13,3 +13,7 @@ pub const PD_SPECIAL: usize = 16;
 /// Where a page's size and layout version stand in one number of two bytes
 /// (`pd_pagesize_version` of `bufpage.h`).
 pub const PD_PAGESIZE_VERSION: usize = 18;
+
+/// What stands there: pages of 8,192 bytes in layout version 4 (`PageSetPageSizeAndVersion` of
+/// `bufpage.h`).
+pub const PAGE_VERSION: u16 = 0x2004;

@@ -1,5 +1,6 @@
 ghost use Rattle.std.specs.Prelude.{◌≡◌, ◌⊎◌, ◌+◌, ◌*◌, ◌<◌, ◌≤◌, ◌^◌, [], length, max, OnOk, OnErr};
 ghost use Rattle.pg_bytes.specs.Image.{filled_up, placed};
+ghost use Rattle.pg_bytes.specs.PageLayout.{page_size};
 ghost use Rattle.pg_bytes.specs.Places.{written};
 
 use crate::PAGE;
@@ -15,12 +16,14 @@ pub struct IndexImage {
 
 impl Model for IndexImage {
     ghost use Rattle.std.specs.Prelude.{List, ℕ, ◌≡◌, ◌≤◌, ◌%◌, ◌^◌, length};
+    ghost use Rattle.pg_bytes.specs.PageLayout.{page_size};
 
     ghost Value = { List ℕ };
 
     ghost view = { λ image. image.bytes.items };
 
-    ghost invariant = { λ image. (length image.bytes.items % 8192 ≡ 0) × (length image.bytes.items ≤ 2 ^ 44) };
+    ghost invariant = { λ image.
+        (length image.bytes.items % page_size ≡ 0) × (length image.bytes.items ≤ 2 ^ 44) };
 }
 
 impl IndexImage {
@@ -35,7 +38,7 @@ impl IndexImage {
 
     /// How many blocks of 8,192 bytes the image has.
     pub fn blocks(&self) -> u32
-        ensures { result * 8192 ≡ length self.now }
+        ensures { result * page_size ≡ length self.now }
     {
         (self.bytes.len() / PAGE) as u32
     }
@@ -66,9 +69,12 @@ impl IndexImage {
 #[tactic(auto, unfolding(crate::specs::Places::written, crate::specs::Places::zeros))]
 fn set_block(bytes: &mut Vec<u8>, at: usize, block: &[u8]) -> Result<(), AllocError>
     requires room { at + length block.now < 2 ^ 63 }
-    requires whole { (at + length block.now ≤ length bytes.old.items) ⊎ (length bytes.old.items ≤ at) }
-    ensures ok { OnOk result (bytes.new.items ≡ written block.now at (filled_up at bytes.old.items)) }
-    ensures size { OnOk result (length bytes.new.items ≡ max (length bytes.old.items) (at + length block.now)) }
+    requires whole { (at + length block.now ≤ length bytes.old.items)
+        ⊎ (length bytes.old.items ≤ at) }
+    ensures ok { OnOk result
+        (bytes.new.items ≡ written block.now at (filled_up at bytes.old.items)) }
+    ensures size { OnOk result
+        (length bytes.new.items ≡ max (length bytes.old.items) (at + length block.now)) }
     ensures err { OnErr result (bytes.new.items ≡ bytes.old.items) }
 {
     let end = at + block.len();

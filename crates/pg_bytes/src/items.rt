@@ -1,4 +1,4 @@
-ghost use Rattle.std.specs.Prelude.{◌≡◌, [], ◌∷◌, ◌++◌, ◌<◌, length, get_or, MatchOption, IfErr, OnOk, OnErr};
+ghost use Rattle.std.specs.Prelude.{◌≡◌, [], ◌∷◌, ◌++◌, ◌<◌, length, slice_get, Some, MatchOption, IfErr, OnOk, OnErr};
 
 use crate::row_ptr::RowPtr;
 use std::alloc::Global;
@@ -86,7 +86,7 @@ impl<T> Items<T> {
     /// The item at a place, counted from 0.
     pub fn get(&self, at: usize) -> &T
         requires { at < length self.now }
-        ensures { result.now ≡ get_or self.now at result.now }
+        ensures { slice_get self.now at ≡ Some result.now }
     {
         &self.items[at]
     }

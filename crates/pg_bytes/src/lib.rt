@@ -7,8 +7,19 @@
 //! space, and the hole between the two is zero.
 //!
 //! The invariant: a `Page` and a `PageBuf` always hold one page's bytes, and an `IndexImage` whole
-//! pages. What the layers above may rely on: each write gives the whole page after it, so all
-//! other bytes are as before.
+//! pages, so no layer above asks for their length again.
+//!
+//! # What it promises
+//!
+//! Each number, pointer and page is read and written as its definition says, and each write gives
+//! the whole page after it, so all other bytes are as before. A call that finds no memory changes
+//! nothing. The definition of the least fault, which page, chains and values tell, stands here
+//! too, below all that use it.
+//!
+//! # What is not
+//!
+//! Nothing here knows what stands in a tuple or a special space, looks at a checksum or an LSN, or
+//! judges a page that it reads: that is `heap_page`'s.
 #![tactic(auto)]
 
 mod header;
@@ -20,11 +31,11 @@ mod page;
 mod page_buf;
 mod row_ptr;
 
-pub use header::{PD_FLAGS, PD_LOWER, PD_PAGESIZE_VERSION, PD_SPECIAL, PD_UPPER};
+pub use header::{PAGE_VERSION, PD_FLAGS, PD_LOWER, PD_PAGESIZE_VERSION, PD_SPECIAL, PD_UPPER};
 pub use image::IndexImage;
 pub use items::{Bytes, Items, RowPtrs};
 pub use line_ptr::{LinePtr, LineState};
-pub use numbers::{al2, al8, i64_at, u16_at, u32_at};
+pub use numbers::{al2, al8, i64_at, u16_at, u32_at, zero_bytes};
 pub use page::Page;
 pub use page_buf::PageBuf;
 pub use row_ptr::RowPtr;

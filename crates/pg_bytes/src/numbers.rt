@@ -1,8 +1,9 @@
-ghost use Rattle.std.specs.Prelude.{◌≡◌, ◌+◌, ◌<◌, ◌≤◌, ◌^◌, length};
+ghost use Rattle.std.specs.Prelude.{◌≡◌, ◌+◌, ◌<◌, ◌≤◌, ◌^◌, length, IfOk};
 ghost use Rattle.pg_bytes.specs.Numbers.{number_at, number_bytes, rounded_up, signed_at};
-ghost use Rattle.pg_bytes.specs.Places.{written};
+ghost use Rattle.pg_bytes.specs.Places.{written, zeros};
 
 use byteorder::{ByteOrder, LittleEndian};
+use std::alloc::{AllocError, Global};
 
 /// Rounds a size in bytes up to a multiple of 8 (`MAXALIGN`).
 pub fn al8(x: u64) -> u64
@@ -53,6 +54,15 @@ fn u64_at(bytes: &[u8], at: usize) -> u64
     ensures { result ≡ number_at 8 bytes.now at }
 {
     LittleEndian::read_u64(&bytes[at..])
+}
+
+/// So many zero bytes. An error means that no memory was left.
+#[tactic(auto, unfolding(crate::specs::Places::zeros))]
+pub fn zero_bytes(alloc: Global, count: usize) -> Result<Vec<u8>, AllocError>
+    ensures value { IfOk result (λ bytes. bytes.items ≡ zeros count) }
+    ensures size { IfOk result (λ bytes. length bytes.items ≡ count) }
+{
+    vec![in alloc; 0; count]
 }
 
 // Writes the two bytes of a number at a place.

@@ -1,4 +1,5 @@
 ghost use Rattle.std.specs.Prelude.{◌≡◌, ◌≢◌, ◌↔◌, length, IsNone, IfSome};
+ghost use Rattle.pg_bytes.specs.PageLayout.{page_size};
 
 use crate::PAGE;
 use std::marker::Model;
@@ -11,18 +12,19 @@ pub struct Page<'a> {
 
 impl<'a> Model for Page<'a> {
     ghost use Rattle.std.specs.Prelude.{List, ℕ, ◌≡◌, length};
+    ghost use Rattle.pg_bytes.specs.PageLayout.{page_size};
 
     ghost Value = { List ℕ };
 
     ghost view = { λ page. page.bytes.now };
 
-    ghost invariant = { λ page. length page.bytes.now ≡ 8192 };
+    ghost invariant = { λ page. length page.bytes.now ≡ page_size };
 }
 
 impl<'a> Page<'a> {
     /// The page of these bytes. None comes exactly where they aren't 8,192.
     pub fn of(bytes: &'a [u8]) -> Option<Page<'a>>
-        ensures refused { IsNone result ↔ (length bytes.now ≢ 8192) }
+        ensures refused { IsNone result ↔ (length bytes.now ≢ page_size) }
         ensures page { IfSome result (λ page. page ≡ bytes.now) }
     {
         if bytes.len() == PAGE {
@@ -35,7 +37,7 @@ impl<'a> Page<'a> {
     /// The page's 8,192 bytes.
     pub fn bytes(&self) -> &'a [u8]
         ensures value { result.now ≡ self.now }
-        ensures size { length result.now ≡ 8192 }
+        ensures size { length result.now ≡ page_size }
     {
         self.bytes
     }

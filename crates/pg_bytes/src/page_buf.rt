@@ -1,11 +1,11 @@
 ghost use Rattle.std.specs.Prelude.{◌≡◌, ◌⊎◌, ◌+◌, ◌*◌, ◌<◌, ◌≤◌, length, IfOk};
 ghost use Rattle.pg_bytes.specs.Numbers.{number_bytes, rounded_up};
-ghost use Rattle.pg_bytes.specs.PageLayout.{aligned, empty_page, lower_with, upper_of, with_item};
+ghost use Rattle.pg_bytes.specs.PageLayout.{aligned, empty_page, lower_with, page_size, upper_of, with_item};
 ghost use Rattle.pg_bytes.specs.Places.{written, zeros};
 
-use crate::header::{PD_LOWER, PD_PAGESIZE_VERSION, PD_SPECIAL, PD_UPPER};
+use crate::header::{PAGE_VERSION, PD_LOWER, PD_PAGESIZE_VERSION, PD_SPECIAL, PD_UPPER};
 use crate::line_ptr::{LinePtr, LineState};
-use crate::numbers::{al8, u16_at};
+use crate::numbers::{al8, u16_at, zero_bytes};
 use crate::{LINE_POINTER, PAGE, PAGE_HEADER};
 use byteorder::{ByteOrder, LittleEndian};
 use std::alloc::{AllocError, Global};
@@ -19,23 +19,13 @@ pub struct PageBuf {
 
 impl Model for PageBuf {
     ghost use Rattle.std.specs.Prelude.{List, ℕ, ◌≡◌, length};
+    ghost use Rattle.pg_bytes.specs.PageLayout.{page_size};
 
     ghost Value = { List ℕ };
 
     ghost view = { λ page. page.bytes.items };
 
-    ghost invariant = { λ page. length page.bytes.items ≡ 8192 };
-}
-
-// Pages of 8,192 bytes in layout version 4.
-const VERSION: u16 = 0x2004;
-
-// So many zero bytes.
-#[tactic(auto, unfolding(crate::specs::Places::zeros))]
-fn zero_bytes(alloc: Global, count: usize) -> Result<Vec<u8>, AllocError>
-    ensures { IfOk result (λ bytes. bytes.items ≡ zeros count) }
-{
-    vec![in alloc; 0; count]
+    ghost invariant = { λ page. length page.bytes.items ≡ page_size };
 }
 
 impl PageBuf {
@@ -52,14 +42,14 @@ impl PageBuf {
         page.put_u16(PD_LOWER, PAGE_HEADER as u16);
         page.put_u16(PD_UPPER, end);
         page.put_u16(PD_SPECIAL, end);
-        page.put_u16(PD_PAGESIZE_VERSION, VERSION);
+        page.put_u16(PD_PAGESIZE_VERSION, PAGE_VERSION);
         Ok(page)
     }
 
     /// The page's 8,192 bytes.
     pub fn bytes(&self) -> &[u8]
         ensures value { result.now ≡ self.now }
-        ensures size { length result.now ≡ 8192 }
+        ensures size { length result.now ≡ page_size }
     {
         &self.bytes
     }
@@ -67,7 +57,7 @@ impl PageBuf {
     /// Writes a number of two bytes, the low one first, at a place in bytes from the page's start.
     #[tactic(auto, unfolding(crate::specs::Numbers::number_bytes))]
     pub fn put_u16(&mut self, at: usize, value: u16)
-        requires { at + 2 ≤ 8192 }
+        requires { at + 2 ≤ page_size }
         ensures { self.new ≡ written (number_bytes 2 value) at self.old }
     {
         let mut field = [0u8; 2];
@@ -78,7 +68,7 @@ impl PageBuf {
     /// Writes a number of four bytes, the low one first, at a place in bytes from the page's start.
     #[tactic(auto, unfolding(crate::specs::Numbers::number_bytes))]
     pub fn put_u32(&mut self, at: usize, value: u32)
-        requires { at + 4 ≤ 8192 }
+        requires { at + 4 ≤ page_size }
         ensures { self.new ≡ written (number_bytes 4 value) at self.old }
     {
         let mut field = [0u8; 4];
@@ -89,7 +79,7 @@ impl PageBuf {
     /// Writes these bytes at a place in bytes from the page's start.
     #[tactic(auto, unfolding(crate::specs::Places::written))]
     pub fn put_slice(&mut self, at: usize, bytes: &[u8])
-        requires { at + length bytes.now ≤ 8192 }
+        requires { at + length bytes.now ≤ page_size }
         ensures { self.new ≡ written bytes.now at self.old }
     {
         self.bytes[at..at + bytes.len()].copy_from_slice(bytes);
@@ -98,7 +88,7 @@ impl PageBuf {
     // Writes so many zeros at a place.
     #[tactic(auto, unfolding(crate::specs::Places::written, crate::specs::Places::zeros))]
     fn clear(&mut self, at: usize, count: usize)
-        requires { at + count ≤ 8192 }
+        requires { at + count ≤ page_size }
         ensures { self.new ≡ written (zeros count) at self.old }
     {
         self.bytes[at..at + count].fill(0);
@@ -111,8 +101,9 @@ impl PageBuf {
     pub fn put_item(&mut self, line: u16, item: &[u8])
         requires line { 1 ≤ line }
         requires item { 0 < length item.now }
-        requires upper { upper_of self.old ≤ 8192 }
-        requires room { lower_with line self.old + rounded_up 8 (length item.now) ≤ upper_of self.old }
+        requires upper { upper_of self.old ≤ page_size }
+        requires room { lower_with line self.old + rounded_up 8 (length item.now)
+            ≤ upper_of self.old }
         ensures { self.new ≡ with_item line item.now self.old }
     {
         let lower = u16_at(&self.bytes, PD_LOWER).max(
@@ -136,7 +127,7 @@ impl PageBuf {
     // Writes an item and the zeros up to its alignment at a place.
     #[tactic(auto, unfolding(crate::specs::PageLayout::aligned))]
     fn put_aligned(&mut self, place: usize, item: &[u8])
-        requires { place + rounded_up 8 (length item.now) ≤ 8192 }
+        requires { place + rounded_up 8 (length item.now) ≤ page_size }
         ensures { self.new ≡ written (aligned item.now) place self.old }
     {
         let _page = &self.bytes;

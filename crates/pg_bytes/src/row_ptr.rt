@@ -1,4 +1,4 @@
-ghost use Rattle.std.specs.Prelude.{◌≡◌, ◌+◌, ◌≤◌, length};
+ghost use Rattle.std.specs.Prelude.{◌≡◌, ◌↔◌, ◌+◌, ◌≤◌, length, IsTrue};
 
 use crate::numbers::{put_u16_at, u16_at};
 
@@ -12,7 +12,7 @@ pub struct RowPtr {
 
 impl RowPtr {
     ghost use Rattle.pg_bytes.specs.Places.{written};
-    ghost use Rattle.pg_bytes.specs.Pointers.{row_pointer_at, row_pointer_bytes};
+    ghost use Rattle.pg_bytes.specs.Pointers.{IsBefore, row_pointer_at, row_pointer_bytes};
 
     /// The row pointer in the six bytes at a place: the block's high half, its low half
     /// (`BlockIdData` of `block.h`), and the line pointer's number, each little-endian.
@@ -25,6 +25,14 @@ impl RowPtr {
                 + u32::from(u16_at(bytes, place + 2)),
             offset: u16_at(bytes, place + 4),
         }
+    }
+
+    /// Whether it comes before another, by block and then by offset, as its order has it
+    /// (`ItemPointerCompare` of `itemptr.c`).
+    pub fn is_before(&self, other: &RowPtr) -> bool
+        ensures { IsTrue result ↔ IsBefore self.now other.now }
+    {
+        self < other
     }
 
     /// Writes the six bytes at a place, as `at` reads them.

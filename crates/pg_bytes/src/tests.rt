@@ -4,6 +4,7 @@ use crate::{
 };
 use std::process::Abort;
 use std::test::Fail;
+use test_pages::differs_at;
 
 #[test]
 fn rounds_sizes_up(rt: HostRuntime) {
@@ -40,6 +41,17 @@ fn row_pointers_have_the_high_half_first(rt: HostRuntime) {
 }
 
 #[test]
+fn row_pointers_are_ordered_by_block(rt: HostRuntime) {
+    let row = |block, offset| RowPtr { block, offset };
+    let ascending = [row(0, 1), row(0, 9), row(1, 2), row(70_000, 1)];
+    for pair in ascending.windows(2) {
+        assert!(rt; pair.len() == 2);
+        assert!(rt; pair[0].is_before(&pair[1]) && pair[0] < pair[1]);
+        assert!(rt; !pair[1].is_before(&pair[0]) && !pair[0].is_before(&pair[0]));
+    }
+}
+
+#[test]
 fn line_pointers_stand_in_a_word(rt: HostRuntime) {
     let cases = [
         (0x0038_9FE0, (8160, 28), LineState::Normal),
@@ -55,23 +67,6 @@ fn line_pointers_stand_in_a_word(rt: HostRuntime) {
     }
 }
 
-// That these bytes stand at these places, and zeros elsewhere.
-fn assert_bytes(rt: &impl Abort, bytes: &[u8], pieces: &[(usize, &[u8])]) {
-    for (place, byte) in bytes.iter().enumerate() {
-        assert_eq!(rt; *byte, wanted_at(pieces, place), "byte {place}");
-    }
-}
-
-// The byte that these pieces have at a place, or 0.
-fn wanted_at(pieces: &[(usize, &[u8])], place: usize) -> u8 {
-    for (first, bytes) in pieces {
-        if *first <= place && place - *first < bytes.len() {
-            return bytes[place - *first];
-        }
-    }
-    0
-}
-
 #[test]
 fn pages_without_items_have_a_header(rt: HostRuntime) -> Result<(), Fail> {
     let cases: [(u16, &[u8]); 2] = [
@@ -81,7 +76,7 @@ fn pages_without_items_have_a_header(rt: HostRuntime) -> Result<(), Fail> {
     for (special, header) in cases {
         assert!(rt; special == 8 || special == 16);
         let page = PageBuf::new(rt.alloc(), special)?;
-        assert_bytes(&rt, page.bytes(), &[(12, header)]);
+        assert_eq!(rt; differs_at(page.bytes(), &[(12, header)]), None);
     }
     Ok(())
 }
@@ -92,18 +87,15 @@ fn items_grow_downwards(rt: HostRuntime) -> Result<(), Fail> {
     page.put_slice(8100, &[0xFF; 92]);
     add_item(&rt, &mut page, 1, &[1; 16]);
     add_item(&rt, &mut page, 2, &[2; 28]);
-    assert_bytes(
-        &rt,
-        page.bytes(),
-        &[
-            (12, &[0x20, 0x00, 0xC0, 0x1F, 0xF0, 0x1F, 0x04, 0x20]),
-            (24, &[0xE0, 0x9F, 0x20, 0x00, 0xC0, 0x9F, 0x38, 0x00]),
-            (8100, &[0xFF; 28]),
-            (8128, &[2; 28]),
-            (8160, &[1; 16]),
-            (8176, &[0xFF; 16]),
-        ],
-    );
+    let wanted: [(usize, &[u8]); 6] = [
+        (12, &[0x20, 0x00, 0xC0, 0x1F, 0xF0, 0x1F, 0x04, 0x20]),
+        (24, &[0xE0, 0x9F, 0x20, 0x00, 0xC0, 0x9F, 0x38, 0x00]),
+        (8100, &[0xFF; 28]),
+        (8128, &[2; 28]),
+        (8160, &[1; 16]),
+        (8176, &[0xFF; 16]),
+    ];
+    assert_eq!(rt; differs_at(page.bytes(), &wanted), None);
     Ok(())
 }
 
@@ -124,10 +116,13 @@ fn blocks_between_are_zero(rt: HostRuntime) -> Result<(), Fail> {
     assert_eq!(rt; image.blocks(), 0);
     image.place(2, &page)?;
     assert_eq!(rt; image.blocks(), 3);
-    assert_bytes(&rt, image.bytes(), &[(16396, &header)]);
+    assert_eq!(rt; differs_at(image.bytes(), &[(16396, &header)]), None);
     image.place(0, &page)?;
     assert_eq!(rt; image.blocks(), 3);
-    assert_bytes(&rt, image.bytes(), &[(12, &header), (16396, &header)]);
+    assert_eq!(rt;
+        differs_at(image.bytes(), &[(12, &header), (16396, &header)]),
+        None
+    );
     Ok(())
 }
 

@@ -44,10 +44,10 @@ headed lower upper special version page blank =
     four ∙ ap (λ (r : List ℕ). (e ++ number_bytes 2 version) ++ r) tail ∙ simp append_assoc
 
 pub invariant_of-page : goal.invariant_of-page
-invariant_of-page c = rw c.in_ok-zero_bytes.ensures (length-zeros 8192)
+invariant_of-page c = c.in_ok-zero_bytes.ensures.size
 
 pub returns : goal.returns
 unfolding empty_page page_header
 returns c =
     rw (c.put_u16-4.ensures, c.put_u16-3.ensures, c.put_u16-2.ensures, c.put_u16.ensures)
-    (headed 24 (8192 - c.args.special) (8192 - c.args.special) 8196 c.in_ok-zero_bytes.field-0.items c.in_ok-zero_bytes.ensures)
+    (headed 24 (8192 - c.args.special) (8192 - c.args.special) 8196 c.in_ok-zero_bytes.field-0.items c.in_ok-zero_bytes.ensures.value)
