@@ -20,11 +20,16 @@
 //! its place. A row more turns this page into that of one row more, and nothing is left to be
 //! mended at the end.
 //!
-//! What the layer above may rely on: unless memory runs out, `one_leaf` gives exactly the file of
-//! the definition, each byte of it. Rows are taken as they are. Nothing here sorts or compares
-//! them, and equal keys would stand side by side, where PostgreSQL joins them to one tuple with a
-//! list of row pointers (`nbtdedup.c`). So it is for the caller to give distinct keys in ascending
-//! order.
+//! # What it promises
+//!
+//! Unless memory runs out, `one_leaf` gives exactly the file of the definition, each byte of it.
+//!
+//! # What is not
+//!
+//! Rows are taken as they are. Nothing here sorts or compares them, and equal keys would stand side
+//! by side, where PostgreSQL joins them to one tuple with a list of row pointers (`nbtdedup.c`). So
+//! it is for the caller to give distinct keys in ascending order, and no more of them than one leaf
+//! holds.
 #![tactic(auto)]
 
 mod leaf_file;
@@ -33,7 +38,7 @@ mod row;
 mod special;
 mod tuple;
 
-pub use leaf_file::one_leaf;
+pub use leaf_file::{MOST_ROWS, one_leaf};
 pub use row::OneRow;
 
 #[cfg(test)]

@@ -1,7 +1,7 @@
 ghost use Rattle.std.specs.Prelude.{◌≡◌, IfOk};
 ghost use Rattle.btree_pack.specs.Page.{meta_fields, meta_page};
 
-use crate::special::{META, SPECIAL_PLACE, SPECIAL_SPACE, SpecialSpace};
+use crate::special::{META, SPECIAL_BYTES, SPECIAL_PLACE, SpecialSpace};
 use byteorder::{ByteOrder, LittleEndian};
 use pg_bytes::{PAGE_HEADER, PD_LOWER, PageBuf};
 use std::alloc::{AllocError, Global};
@@ -39,7 +39,7 @@ impl MetaPage {
             level: 0,
             flags: META,
         };
-        let mut page = PageBuf::new(alloc, SPECIAL_SPACE)?;
+        let mut page = PageBuf::new(alloc, SPECIAL_BYTES as u16)?;
         page.put_u16(PD_LOWER, LOWER);
         page.put_slice(PAGE_HEADER, &self.fields());
         page.put_slice(SPECIAL_PLACE, &special.bytes());
@@ -48,7 +48,7 @@ impl MetaPage {
 
     // The fields as they stand behind the page's header.
     #[tactic(auto, unfolding(crate::specs::Page::meta_fields, pg_bytes::specs::Numbers::number_bytes, pg_bytes::specs::Places::zeros))]
-    fn fields(&self) -> [u8; 48]
+    fn fields(&self) -> [u8; FIELDS]
         ensures { result ≡ meta_fields self.now.root self.now.level }
     {
         let mut fields = [0u8; FIELDS];

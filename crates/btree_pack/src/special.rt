@@ -4,7 +4,7 @@ ghost use Rattle.btree_pack.specs.Page.{special_space};
 use byteorder::{ByteOrder, LittleEndian};
 
 /// The bytes of a B-tree page's special space (`sizeof(BTPageOpaqueData)`).
-pub const SPECIAL_SPACE: u16 = 16;
+pub const SPECIAL_BYTES: usize = 16;
 
 /// Where a B-tree page's special space begins.
 pub const SPECIAL_PLACE: usize = 8176;
@@ -31,10 +31,11 @@ pub struct SpecialSpace {
 impl SpecialSpace {
     /// The 16 bytes as they stand at the page's end, the last two zero (`btpo_cycleid`).
     #[tactic(auto, unfolding(crate::specs::Page::special_space, pg_bytes::specs::Numbers::number_bytes))]
-    pub fn bytes(&self) -> [u8; 16]
-        ensures { result ≡ special_space self.now.prev self.now.next self.now.level self.now.flags }
+    pub fn bytes(&self) -> [u8; SPECIAL_BYTES]
+        ensures { result
+            ≡ special_space self.now.prev self.now.next self.now.level self.now.flags }
     {
-        let mut bytes = [0u8; 16];
+        let mut bytes = [0u8; SPECIAL_BYTES];
         LittleEndian::write_u32(&mut bytes, self.prev);
         LittleEndian::write_u32(&mut bytes[4..], self.next);
         LittleEndian::write_u32(&mut bytes[8..], self.level);

@@ -16,7 +16,7 @@ const KEY: usize = 8;
 /// The tuple of a row (`index_form_tuple` of `indextuple.c`). A key that isn't null and has a fixed
 /// width sets no flag, so `t_info` is the size alone.
 #[tactic(auto, unfolding(crate::specs::Tuple::plain_tuple, crate::specs::Tuple::int4_bytes, pg_bytes::specs::Numbers::number_bytes, pg_bytes::specs::Places::zeros, pg_bytes::specs::Places::written, pg_bytes::specs::Pointers::row_pointer_bytes, pg_bytes::specs::PageLayout::aligned))]
-pub fn plain_tuple(row: &OneRow) -> [u8; 16]
+pub fn plain_tuple(row: &OneRow) -> [u8; INT4_TUPLE]
     ensures { result ≡ tuple_of row.now }
 {
     let mut tuple = [0u8; INT4_TUPLE];
