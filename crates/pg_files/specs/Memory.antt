@@ -1,20 +1,10 @@
 -- Files in memory, as callers see them.
-use Rattle.std.specs.Prelude.{◌≡◌, ℕ, ◌+◌, ◌-◌, ◌++◌, min, List, [], take, drop, length, Option, None, Some, Bool, nat_eq, find, cond, option_map}
+use Rattle.std.specs.Prelude.{◌≡◌, ℕ, ◌-◌, ◌++◌, min, List, [], take, drop, length, Option, None, Some, Bool, nat_eq, cond}
 use Rattle.std.specs.List.{list_any}
-use Rattle.std.specs.Str.{bytes_eq}
-use Rattle.std.specs.String.{string_bytes}
-use Rattle.pg_files.specs.Faults.{most_faults}
-use Rattle.pg_files.specs.Told.{FileMap}
-use Rattle.pg_files.specs.declared.mem_files.MemFile.{MemFile}
+use Rattle.pg_files.specs.Faults.{raised}
+use Rattle.pg_files.specs.NamedFiles.{file_map}
+use Rattle.pg_files.specs.Outside.{FileMap, Outside}
 use Rattle.pg_files.specs.declared.mem_files.MemFiles.{MemFiles}
-
--- whether a file has this name
-abbrev pub is_named : List ℕ → MemFile → Bool
-is_named name file = bytes_eq (string_bytes file.name) name
-
--- the bytes of each file of a list
-abbrev pub file_map : List MemFile → FileMap
-file_map files name = option_map (λ (file : MemFile). file.bytes.items) (find (is_named name) files)
 
 -- all that files in memory tell
 pub record Memory : Type 0 where
@@ -45,21 +35,15 @@ memory m = record {
   refused = m.refused;
 }
 
--- the same as the trait `Files` sees it, with one count of each kind for all names
-abbrev pub files_told : MemFiles → Option FileMap
-files_told m = Some (memory m).files
-
-abbrev pub said_told : MemFiles → Option (List ℕ)
-said_told m = Some (memory m).said
-
-abbrev pub read_counts : MemFiles → List ℕ → ℕ
-read_counts m name = (memory m).read_faults
-
-abbrev pub write_counts : MemFiles → List ℕ → ℕ
-write_counts m name = (memory m).write_faults
-
-abbrev pub say_count : MemFiles → ℕ
-say_count m = (memory m).say_faults
+-- the same as the trait `Files` shows it, with one count of each kind for all names
+abbrev pub outside_of : Memory → Outside
+outside_of m = record {
+  files = Some m.files;
+  said = Some m.said;
+  read_faults = λ name. m.read_faults;
+  write_faults = λ name. m.write_faults;
+  say_faults = m.say_faults;
+}
 
 -- no files, and nothing counted
 abbrev pub fresh : Memory
@@ -77,10 +61,6 @@ fresh = record {
 -- other files, and all else as it is
 abbrev pub with_files : FileMap → Memory → Memory
 with_files files m = record m { files = files }
-
--- a number after it was raised
-abbrev pub raised : ℕ → ℕ
-raised n = min (n + 1) most_faults
 
 -- whether the next call is set to fail
 abbrev pub is_set_to_fail : Memory → Bool
@@ -117,7 +97,8 @@ abbrev pub read_over : List ℕ → ℕ → List ℕ → List ℕ
 read_over bytes place buffer =
     take (read_count bytes place buffer) (drop place bytes) ++ drop (read_count bytes place buffer) buffer
 
--- what a read of a file that is there gives
-abbrev pub IsReadOf : Option (List ℕ) → ℕ → ℕ → List ℕ → List ℕ → Type 0
-IsReadOf None place count old new = ⊥
-IsReadOf (Some bytes) place count old new = (count ≡ read_count bytes place old) × (new ≡ read_over bytes place old)
+-- a read of a file that is there gives all that fits
+abbrev pub GivesAllThatFits : Option (List ℕ) → ℕ → ℕ → List ℕ → List ℕ → Type 0
+GivesAllThatFits None place count old new = ⊥
+GivesAllThatFits (Some bytes) place count old new =
+    (count ≡ read_count bytes place old) × (new ≡ read_over bytes place old)

@@ -4,7 +4,7 @@ use Rattle.std.proofs.Math.Seq.{take-append-add}
 use Rattle.std.proofs.lemmas.List.{length-take-le, take-append-le}
 use Rattle.std.specs.Io.KnownBytes.{Consumes}
 use borrow.Rule.Slice.PartMut.{put_mid, post_of}
-use Rattle.pg_files.proofs.real_files.fill.Goals as goal
+use Rattle.pg_files.proofs.whole_io.fill.Goals as goal
 
 -- what comes into the rest of a buffer stands behind what is there
 front_grows : (place size more : ℕ) (old new : List ℕ) → place ≤ length old → more ≤ length new
