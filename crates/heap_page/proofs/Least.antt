@@ -1,13 +1,14 @@
 -- How the faults of a page follow from those of its items, asked in ascending order.
 use Rattle.std.proofs.Common.{◌≡◌, ◌≤◌, ℕ, ◌+◌, List, Bool, true, false, IsSome, IsNone, refl, sym, subst, inl, inr, arith, below_more}
 use Rattle.std.proofs.lemmas.Bool.{cases_lt}
-use Rattle.heap_page.specs.Fault.{HasBadTuple, IsMisplaced, IsUnfit, number_of_cause, Has, IsLeastFault, ComesBy}
+use Rattle.pg_bytes.specs.LeastFault.{IsNotBehind}
+use Rattle.heap_page.specs.Fault.{HasBadTuple, IsMisplaced, IsUnfit, number_of_page_cause, BreaksRule, IsLeastPageFault}
 use Rattle.heap_page.specs.Line.{IsNormal, IsNew, line_at}
 use Rattle.heap_page.specs.Tuple.{header_of}
 use Rattle.heap_page.specs.Visibility.{state_of}
 use Rattle.pg_bytes.specs.declared.line_ptr.LinePtr.{LinePtr}
 use Rattle.heap_page.specs.declared.header.Header.{Header}
-use Rattle.heap_page.specs.Units.{FaultAt, IsLeastCause, IsSoundAt, IsSoundBelow}
+use Rattle.heap_page.specs.Pass.Faults.{IsFaultAt, IsLeastCause, IsSoundAt, IsSoundBelow}
 use Rattle.heap_page.specs.declared.fault.PageCause.{PageCause}
 use Rattle.heap_page.specs.declared.fault.PageCause.TheVariants.{BadHeader, BadLine, BadTuple, Unsettled}
 use Rattle.heap_page.specs.declared.fault.PageFault.{PageFault}
@@ -15,31 +16,37 @@ use Rattle.heap_page.specs.declared.fault.PageFault.{PageFault}
 -- a faultless item more
 pub sound-more : (page : List ℕ) (columns k : ℕ) → IsSoundBelow page columns k → IsSoundAt page columns k → IsSoundBelow page columns (k + 1)
 sound-more page columns k below here = record {
-  none = λ item cause within has. below_more (λ (i : ℕ). Has page columns i cause → ⊥) k (λ i h. below.none i cause h) (here.none cause) item within has;
+  none = λ item cause within has. below_more (λ (i : ℕ). BreaksRule page columns i cause → ⊥) k (λ i h. below.none i cause h) (here.none cause) item within has;
 }
 
 -- the first item with a fault has the least
-comes-by : (page : List ℕ) (columns k : ℕ) (fault : PageFault) → IsSoundBelow page columns k → (at : FaultAt page columns k fault) → (item : ℕ) (other : PageCause) → Has page columns item other → ComesBy k at.cause item other
-comes-by page columns k fault below at item other has =
+not-behind : (page : List ℕ) (columns k : ℕ) (fault : PageFault) → IsSoundBelow page columns k → (at : IsFaultAt page columns k fault)
+    → (item : ℕ) (other : PageCause) → BreaksRule page columns item other
+    → IsNotBehind k (number_of_page_cause at.cause) item (number_of_page_cause other)
+not-behind page columns k fault below at item other has =
     elim (cases_lt k item) [
       | inl h ↦ inl h
       | inr h ↦ elim (cases_lt item k) [
         | inl lesser ↦ absurd (below.none item other lesser has)
         | inr same ↦ let equal : item ≡ k = omega arith in
-            inr (sym equal, at.least.least other (subst (λ (i : ℕ). Has page columns i other) equal has))
+            inr (sym equal, at.least.least other (subst (λ (i : ℕ). BreaksRule page columns i other) equal has))
       ]
     ]
 
-pub least-fault : (page : List ℕ) (columns k : ℕ) (fault : PageFault) → (IsNew page → ⊥) → IsSoundBelow page columns k → fault.item ≡ k → FaultAt page columns k fault → IsLeastFault page columns fault
-least-fault page columns k fault used below told at = record {
+pub least-fault : (page : List ℕ) (columns k : ℕ) (fault : PageFault) → (IsNew page → ⊥) → IsSoundBelow page columns k
+    → IsFaultAt page columns k fault → IsLeastPageFault page columns fault
+least-fault page columns k fault used below at = record {
   cause = at.cause;
   told = at.told;
-  there = (used, subst (λ (i : ℕ). Has page columns i at.cause) (sym told) at.least.there);
-  least = λ item other has. subst (λ (i : ℕ). ComesBy i at.cause item other) (sym told) (comes-by page columns k fault below at item other has.1);
+  there = (used, subst (λ (i : ℕ). BreaksRule page columns i at.cause) (sym at.here) at.least.there);
+  least = λ item other has.
+      subst (λ (i : ℕ). IsNotBehind i fault.cause item (number_of_page_cause other)) (sym at.here)
+      (subst (λ (n : ℕ). IsNotBehind k n item (number_of_page_cause other)) (sym at.told)
+      (not-behind page columns k fault below at item other has.1));
 }
 
 -- a tuple that isn't settled has no lesser fault where its place and its header are good
-least-unsettled : (page : List ℕ) (columns k : ℕ) → IsNormal page k → (IsMisplaced page k → ⊥) → (HasBadTuple page columns k → ⊥) → (other : PageCause) → Has page columns k other → 4 ≤ number_of_cause other
+least-unsettled : (page : List ℕ) (columns k : ℕ) → IsNormal page k → (IsMisplaced page k → ⊥) → (HasBadTuple page columns k → ⊥) → (other : PageCause) → BreaksRule page columns k other → 4 ≤ number_of_page_cause other
 least-unsettled page columns k normal placed fits BadHeader has = absurd (omega (arith, normal.0.0, has.0))
 least-unsettled page columns k normal placed fits BadLine (inl h) = absurd (placed h.1)
 least-unsettled page columns k normal placed fits BadLine (inr h) = absurd (omega (arith, normal.1, h.0.1))

@@ -3,29 +3,25 @@ use Rattle.std.proofs.Common.{◌≡◌, ◌⊎◌, ◌↔◌, ℕ, ◌+◌, ◌
 use Rattle.pg_bytes.specs.declared.line_ptr.LinePtr.{LinePtr}
 use Rattle.heap_page.specs.Fault.{IsMisplaced}
 use Rattle.heap_page.specs.Line.{IsNormal, line_at, EndsInside}
-use Rattle.heap_page.specs.Units.{HasUnit, IsMap, IsMarked}
+use Rattle.heap_page.specs.Pass.Units.{HasUnit, IsMapBelow, IsMarked, IsTakenBelow}
 use Rattle.heap_page.proofs.Sound.{place-bounds}
 
 -- the units of an item, as they were found
 abbrev Adds : List Bool → List Bool → LinePtr → Type 0
 Adds old new line = (unit : ℕ) → IsMarked new unit ↔ (IsMarked old unit ⊎ HasUnit line unit)
 
--- an item below k + 1 that has a unit is a lesser one, or this one
-abbrev Owner : List ℕ → ℕ → ℕ → Type 0
-Owner page k unit = (lesser : ℕ) × (lesser < k) × IsNormal page lesser × HasUnit (line_at page lesser) unit
-
-forth : (page : List ℕ) (k unit : ℕ) (old new : List Bool) → IsMap page k old → IsNormal page k → IsMarked old unit ⊎ HasUnit (line_at page k) unit → Owner page (k + 1) unit
+forth : (page : List ℕ) (k unit : ℕ) (old new : List Bool) → IsMapBelow page k old → IsNormal page k → IsMarked old unit ⊎ HasUnit (line_at page k) unit → IsTakenBelow page (k + 1) unit
 forth page k unit old new map normal (inl mark) =
     let owner = (map.marks unit).0 mark in
     (owner.0, omega (arith, owner.1), owner.2, owner.3)
 forth page k unit old new map normal (inr has) = (k, omega arith, normal, has)
 
-back : (page : List ℕ) (k unit : ℕ) (old : List Bool) → IsMap page k old → Owner page (k + 1) unit → IsMarked old unit ⊎ HasUnit (line_at page k) unit
+back : (page : List ℕ) (k unit : ℕ) (old : List Bool) → IsMapBelow page k old → IsTakenBelow page (k + 1) unit → IsMarked old unit ⊎ HasUnit (line_at page k) unit
 back page k unit old map (lesser, within, normal, has) =
     below_more (λ (item : ℕ). IsNormal page item → HasUnit (line_at page item) unit → IsMarked old unit ⊎ HasUnit (line_at page k) unit) k
     (λ item h n u. inl ((map.marks unit).1 (item, h, n, u))) (λ n u. inr u) lesser within normal has
 
-grown : (page : List ℕ) (k : ℕ) (old new : List Bool) → IsMap page k old → IsNormal page k → (IsMisplaced page k → ⊥) → Adds old new (line_at page k) → IsMap page (k + 1) new
+grown : (page : List ℕ) (k : ℕ) (old new : List Bool) → IsMapBelow page k old → IsNormal page k → (IsMisplaced page k → ⊥) → Adds old new (line_at page k) → IsMapBelow page (k + 1) new
 grown page k old new map normal placed adds =
     let bounds = place-bounds page k placed in
     record {
@@ -35,9 +31,9 @@ grown page k old new map normal placed adds =
     }
 
 -- the map after a placed item's units were marked
-pub marked-map : (page : List ℕ) (k : ℕ) (old new : List Bool) (line : LinePtr) (first end : ℕ) → line ≡ line_at page k → IsMap page k old → IsNormal page k → (IsMisplaced page k → ⊥)
+pub marked-map : (page : List ℕ) (k : ℕ) (old new : List Bool) (line : LinePtr) (first end : ℕ) → line ≡ line_at page k → IsMapBelow page k old → IsNormal page k → (IsMisplaced page k → ⊥)
     → first ≡ line.offset / 8 → end ≡ (line.offset + line.length + 7) / 8
-    → ((unit : ℕ) → IsMarked new unit ↔ (IsMarked old unit ⊎ ((first ≤ unit) × (unit < end)))) → IsMap page (k + 1) new
+    → ((unit : ℕ) → IsMarked new unit ↔ (IsMarked old unit ⊎ ((first ≤ unit) × (unit < end)))) → IsMapBelow page (k + 1) new
 marked-map page k old new line first end read map normal placed from to adds =
     grown page k old new map normal placed
     (subst (λ (l : LinePtr). Adds old new l) read

@@ -2,24 +2,25 @@
 use Rattle.std.specs.Prelude.{ℕ, ◌+◌, List, take, drop}
 use Rattle.pg_bytes.specs.Numbers.{number_at}
 use Rattle.pg_bytes.specs.Pointers.{row_pointer_at}
+use Rattle.heap_page.specs.Layout.{xmin_place, xmax_place, ctid_place, infomask2_place, infomask_place, hoff_place}
 use Rattle.heap_page.specs.Line.{line_at}
 use Rattle.heap_page.specs.declared.header.Header.{Header}
 
 -- the header that stands at a place
 abbrev pub header_at : List ℕ → ℕ → Header
 header_at page place = record {
-  xmin = number_at 4 page place;
-  xmax = number_at 4 page (place + 4);
-  ctid = row_pointer_at page (place + 12);
-  infomask2 = number_at 2 page (place + 18);
-  infomask = number_at 2 page (place + 20);
-  hoff = number_at 1 page (place + 22);
+  xmin = number_at 4 page (place + xmin_place);
+  xmax = number_at 4 page (place + xmax_place);
+  ctid = row_pointer_at page (place + ctid_place);
+  infomask2 = number_at 2 page (place + infomask2_place);
+  infomask = number_at 2 page (place + infomask_place);
+  hoff = number_at 1 page (place + hoff_place);
 }
 
--- the header of the item under a line pointer
+-- the header of an item
 abbrev pub header_of : List ℕ → ℕ → Header
-header_of page k = header_at page (line_at page k).offset
+header_of page item = header_at page (line_at page item).offset
 
--- the bytes of the item under a line pointer
+-- the bytes of an item, its header among them
 abbrev pub item_of : List ℕ → ℕ → List ℕ
-item_of page k = take (line_at page k).length (drop (line_at page k).offset page)
+item_of page item = take (line_at page item).length (drop (line_at page item).offset page)

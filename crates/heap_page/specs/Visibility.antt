@@ -1,7 +1,8 @@
 -- Which tuples are rows, by their hint bits alone (the settled cases of HeapTupleSatisfiesVacuum and
 -- HeapTupleSatisfiesMVCC in heapam_visibility.c, where no transaction runs).
 use Rattle.std.specs.Prelude.{ℕ, not, ◌||◌, if◌then◌else◌, Option, Some, None}
-use Rattle.heap_page.specs.Infomask.{is_moved, xmin_aborted, xmin_committed, xmin_invalid, xmax_committed, xmax_invalid, xmax_is_multi, is_locked_only}
+use Rattle.heap_page.specs.Infomask.{is_moved, xmin_aborted, xmin_committed, xmin_invalid}
+use Rattle.heap_page.specs.Infomask.{xmax_committed, xmax_invalid, xmax_is_multi, is_locked_only}
 use Rattle.heap_page.specs.declared.row_state.RowState.{RowState}
 use Rattle.heap_page.specs.declared.row_state.RowState.TheVariants.{Live, Dead}
 

@@ -20,6 +20,7 @@ pub struct Header {
 
 impl Header {
     ghost use Rattle.std.specs.Prelude.{◌≡◌, ◌↔◌, IsSome, IsTrue};
+    ghost use Rattle.heap_page.specs.Infomask.{is_heap_only};
     ghost use Rattle.heap_page.specs.Visibility.{state_of};
 
     /// The hint bits, which say whether the tuple is a row.
@@ -34,6 +35,13 @@ impl Header {
         ensures { result.0 ≡ self.now.infomask2 }
     {
         Infomask2(self.infomask2)
+    }
+
+    /// Whether no index entry leads to the tuple itself (`HeapTupleHeaderIsHeapOnly`).
+    pub fn is_heap_only(&self) -> bool
+        ensures { result ≡ is_heap_only self.now.infomask2 }
+    {
+        self.infomask2_bits().is_heap_only()
     }
 
     /// Whether the hint bits say what the tuple is.

@@ -1,44 +1,44 @@
 use crate::row_state::RowState;
 
-/// `HEAP_HASNULL`: the tuple has a null bitmap.
-pub const HEAP_HASNULL: u16 = 0x0001;
+// `HEAP_HASNULL`: the tuple has a null bitmap.
+const HEAP_HASNULL: u16 = 0x0001;
 
-/// `HEAP_XMAX_EXCL_LOCK`: xmax locks the tuple exclusively.
-pub const HEAP_XMAX_EXCL_LOCK: u16 = 0x0040;
+// `HEAP_XMAX_EXCL_LOCK`: xmax locks the tuple exclusively.
+const HEAP_XMAX_EXCL_LOCK: u16 = 0x0040;
 
-/// `HEAP_LOCK_MASK`: how strongly xmax locks the tuple.
-pub const HEAP_LOCK_MASK: u16 = 0x0050;
+// `HEAP_LOCK_MASK`: how strongly xmax locks the tuple.
+const HEAP_LOCK_MASK: u16 = 0x0050;
 
-/// `HEAP_XMAX_LOCK_ONLY`: xmax does no more than lock the tuple.
-pub const HEAP_XMAX_LOCK_ONLY: u16 = 0x0080;
+// `HEAP_XMAX_LOCK_ONLY`: xmax does no more than lock the tuple.
+const HEAP_XMAX_LOCK_ONLY: u16 = 0x0080;
 
-/// `HEAP_XMIN_COMMITTED`: the inserting transaction committed.
-pub const HEAP_XMIN_COMMITTED: u16 = 0x0100;
+// `HEAP_XMIN_COMMITTED`: the inserting transaction committed.
+const HEAP_XMIN_COMMITTED: u16 = 0x0100;
 
-/// `HEAP_XMIN_INVALID`: the inserting transaction aborted, or with the bit before, the tuple is
-/// frozen.
-pub const HEAP_XMIN_INVALID: u16 = 0x0200;
+// `HEAP_XMIN_INVALID`: the inserting transaction aborted, or with the bit before, the tuple is
+// frozen.
+const HEAP_XMIN_INVALID: u16 = 0x0200;
 
-/// `HEAP_XMAX_COMMITTED`: the deleting transaction committed.
-pub const HEAP_XMAX_COMMITTED: u16 = 0x0400;
+// `HEAP_XMAX_COMMITTED`: the deleting transaction committed.
+const HEAP_XMAX_COMMITTED: u16 = 0x0400;
 
-/// `HEAP_XMAX_INVALID`: no transaction deleted the tuple.
-pub const HEAP_XMAX_INVALID: u16 = 0x0800;
+// `HEAP_XMAX_INVALID`: no transaction deleted the tuple.
+const HEAP_XMAX_INVALID: u16 = 0x0800;
 
-/// `HEAP_XMAX_IS_MULTI`: xmax is a multixact.
-pub const HEAP_XMAX_IS_MULTI: u16 = 0x1000;
+// `HEAP_XMAX_IS_MULTI`: xmax is a multixact.
+const HEAP_XMAX_IS_MULTI: u16 = 0x1000;
 
-/// `HEAP_MOVED`: a VACUUM FULL before version 9.0 moved the tuple.
-pub const HEAP_MOVED: u16 = 0xC000;
+// `HEAP_MOVED`: a VACUUM FULL before version 9.0 moved the tuple.
+const HEAP_MOVED: u16 = 0xC000;
 
-/// `HEAP_NATTS_MASK`: the bits of infomask2 that hold the number of attributes.
-pub const HEAP_NATTS_MASK: u16 = 0x07FF;
+// `HEAP_NATTS_MASK`: the bits of infomask2 that hold the number of attributes.
+const HEAP_NATTS_MASK: u16 = 0x07FF;
 
-/// `HEAP_HOT_UPDATED`: the tuple's update is a heap-only tuple of its page.
-pub const HEAP_HOT_UPDATED: u16 = 0x4000;
+// `HEAP_HOT_UPDATED`: the tuple's update is a heap-only tuple of its page.
+const HEAP_HOT_UPDATED: u16 = 0x4000;
 
-/// `HEAP_ONLY_TUPLE`: no index entry leads to the tuple itself.
-pub const HEAP_ONLY_TUPLE: u16 = 0x8000;
+// `HEAP_ONLY_TUPLE`: no index entry leads to the tuple itself.
+const HEAP_ONLY_TUPLE: u16 = 0x8000;
 
 /// The hint bits of a tuple header (`t_infomask` of `htup_details.h`).
 #[derive(Clone, Copy, Debug, PartialEq, Eq)]
@@ -47,7 +47,9 @@ pub struct Infomask(pub u16);
 impl Infomask {
     ghost use Rattle.std.specs.Prelude.{◌≡◌, ◌↔◌, IsSome, IsTrue};
     ghost use Rattle.heap_page.specs.Visibility.{state_of};
-    ghost use Rattle.heap_page.specs.Infomask.{has_nulls, is_deleted, xmin_committed, xmin_invalid, xmax_committed, xmax_invalid, xmax_is_multi, is_moved, is_locked_only, xmin_aborted};
+    ghost use Rattle.heap_page.specs.Infomask.{has_nulls, is_deleted, is_locked_only, is_moved};
+    ghost use Rattle.heap_page.specs.Infomask.{xmin_aborted, xmin_committed, xmin_invalid};
+    ghost use Rattle.heap_page.specs.Infomask.{xmax_committed, xmax_invalid, xmax_is_multi};
 
     /// Whether the tuple has a null bitmap.
     pub fn has_nulls(self) -> bool

@@ -1,44 +1,29 @@
-ghost use Rattle.std.specs.Prelude.{◌≡◌, ◌↔◌, ◌⊎◌, ◌+◌, ◌/◌, ◌<◌, IsTrue, IfErr, OnOk, length};
-ghost use Rattle.heap_page.specs.Fault.{HasBadHeader, IsAstray, IsMisplaced, IsOutOfPlace, IsUnfit};
-ghost use Rattle.heap_page.specs.Line.{IsLine, IsNormal, line_at, line_count};
-ghost use Rattle.heap_page.specs.Units.{IsLeastCause, IsMap, IsSoundAt};
+ghost use Rattle.std.specs.Prelude.{◌≡◌, ◌↔◌, ◌⊎◌, ◌+◌, ◌-◌, ◌/◌, ◌<◌, IsTrue, IfErr, OnOk};
+ghost use Rattle.heap_page.specs.Fault.{IsMisplaced, IsOutOfPlace, IsUnfit};
+ghost use Rattle.heap_page.specs.Layout.{alignment};
+ghost use Rattle.heap_page.specs.Line.{IsLine, IsNormal, line_at};
+ghost use Rattle.heap_page.specs.Pass.Faults.{IsLeastCause, IsSoundAt};
+ghost use Rattle.heap_page.specs.Pass.Units.{IsMapBelow};
 
 use crate::fault::PageCause;
 use crate::header::Header;
-use crate::layout::{header_at, line_at};
+use crate::layout::{ALIGNMENT, LEAST_HEADER, NULL_BITMAP, header_at, line_at};
 use crate::units::Units;
-use pg_bytes::{LinePtr, LineState, PAGE, PD_UPPER, u16_at};
-
-// The bytes of a tuple header without a null bitmap, aligned (`MAXALIGN(SizeofHeapTupleHeader)`).
-const LEAST_HEADER: u8 = 24;
-
-// Where a tuple's null bitmap begins (`SizeofHeapTupleHeader`).
-const NULL_BITMAP: u16 = 23;
-
-// The alignment of tuples and of their attributes (`MAXIMUM_ALIGNOF`).
-const ALIGNMENT: u16 = 8;
+use crate::used_page::UsedPage;
+use pg_bytes::{LinePtr, LineState, PAGE, PD_UPPER, Page, u16_at};
 
 // The least cause of an item's faults. The units of a faultless item are marked.
-pub(crate) fn check_item(
-    bytes: &[u8],
-    columns: u16,
-    lines: u16,
-    k: u16,
-    units: &mut Units,
-) -> Result<(), PageCause>
-    requires size { length bytes.now ≡ 8192 }
-    requires header { HasBadHeader bytes.now → ⊥ }
-    requires lines { lines ≡ line_count bytes.now }
-    requires line { IsLine bytes.now k }
-    requires map { IsMap bytes.now k units.old.marked }
-    ensures refused { IfErr result (λ cause. IsLeastCause bytes.now columns k cause) }
-    ensures sound { OnOk result (IsSoundAt bytes.now columns k) }
-    ensures map { OnOk result (IsMap bytes.now (k + 1) units.new.marked) }
+pub(crate) fn check_item(page: &UsedPage, item: u16, units: &mut Units) -> Result<(), PageCause>
+    requires line { IsLine page.now.bytes item }
+    requires map { IsMapBelow page.now.bytes item units.old.marked }
+    ensures refused { IfErr result (IsLeastCause page.now.bytes page.now.columns item) }
+    ensures sound { OnOk result (IsSoundAt page.now.bytes page.now.columns item) }
+    ensures map { OnOk result (IsMapBelow page.now.bytes (item + 1) units.new.marked) }
 {
-    let line = line_at(bytes, k);
+    let line = line_at(&page.bytes, item);
     match line.kind() {
-        LineState::Normal => check_normal(bytes, columns, k, line, units),
-        LineState::Redirect if is_astray(line, lines) => Err(PageCause::BadLine),
+        LineState::Normal => check_normal(page, item, line, units),
+        LineState::Redirect if is_astray(line, page.lines) => Err(PageCause::BadLine),
         _ => Ok(()),
     }
 }
@@ -52,25 +37,23 @@ fn is_astray(line: LinePtr, lines: u16) -> bool
 
 // The least cause of a normal item's faults. A faultless item's units are marked.
 fn check_normal(
-    bytes: &[u8],
-    columns: u16,
-    k: u16,
+    page: &UsedPage,
+    item: u16,
     line: LinePtr,
     units: &mut Units,
 ) -> Result<(), PageCause>
-    requires size { length bytes.now ≡ 8192 }
-    requires normal { IsNormal bytes.now k }
-    requires line { line ≡ line_at bytes.now k }
-    requires map { IsMap bytes.now k units.old.marked }
-    ensures refused { IfErr result (λ cause. IsLeastCause bytes.now columns k cause) }
-    ensures sound { OnOk result (IsSoundAt bytes.now columns k) }
-    ensures map { OnOk result (IsMap bytes.now (k + 1) units.new.marked) }
+    requires normal { IsNormal page.now.bytes item }
+    requires line { line ≡ line_at page.now.bytes item }
+    requires map { IsMapBelow page.now.bytes item units.old.marked }
+    ensures refused { IfErr result (IsLeastCause page.now.bytes page.now.columns item) }
+    ensures sound { OnOk result (IsSoundAt page.now.bytes page.now.columns item) }
+    ensures map { OnOk result (IsMapBelow page.now.bytes (item + 1) units.new.marked) }
 {
-    if is_misplaced(bytes, k, line, units) {
+    if is_misplaced(&page.bytes, item, line, units) {
         return Err(PageCause::BadLine);
     }
-    let header = header_at(bytes, usize::from(line.offset));
-    if is_unfit(&header, line.length, columns) {
+    let header = header_at(&page.bytes, usize::from(line.offset));
+    if is_unfit(&header, line.length, page.columns) {
         return Err(PageCause::BadTuple);
     }
     if !header.is_settled() {
@@ -82,40 +65,38 @@ fn check_normal(
 }
 
 // Whether a normal line pointer leads to no tuple's place of its own.
-fn is_misplaced(bytes: &[u8], k: u16, line: LinePtr, units: &Units) -> bool
-    requires size { length bytes.now ≡ 8192 }
-    requires line { line ≡ line_at bytes.now k }
-    requires map { IsMap bytes.now k units.now.marked }
-    ensures { IsTrue result ↔ IsMisplaced bytes.now k }
+fn is_misplaced(page: &Page, item: u16, line: LinePtr, units: &Units) -> bool
+    requires line { line ≡ line_at page.now item }
+    requires map { IsMapBelow page.now item units.now.marked }
+    ensures { IsTrue result ↔ IsMisplaced page.now item }
 {
-    if is_out_of_place(bytes, line) {
+    if is_out_of_place(page, line) {
         return true;
     }
     let (first, end) = units_of(line);
     !units.is_free(first, end)
 }
 
-// Whether a line pointer leads to no aligned place for a tuple behind the page's upper bound.
-fn is_out_of_place(bytes: &[u8], line: LinePtr) -> bool
-    requires { length bytes.now ≡ 8192 }
-    ensures { IsTrue result ↔ IsOutOfPlace bytes.now line }
+// Whether a line pointer leads to no aligned place for a tuple from the page's upper bound on.
+fn is_out_of_place(page: &Page, line: LinePtr) -> bool
+    ensures { IsTrue result ↔ IsOutOfPlace page.now line }
 {
     line.offset % ALIGNMENT != 0
-        || line.offset < u16_at(bytes, PD_UPPER)
+        || line.offset < u16_at(page.bytes(), PD_UPPER)
         || PAGE < usize::from(line.offset) + usize::from(line.length)
         || line.length < u16::from(LEAST_HEADER)
 }
 
 // The units that an item has a part in, from one to before another.
 fn units_of(line: LinePtr) -> (usize, usize)
-    ensures first { result.0 ≡ line.offset / 8 }
-    ensures end { result.1 ≡ (line.offset + line.length + 7) / 8 }
+    ensures first { result.0 ≡ line.offset / alignment }
+    ensures end { result.1 ≡ (line.offset + line.length + (alignment - 1)) / alignment }
 {
     let offset = usize::from(line.offset);
-    let alignment = usize::from(ALIGNMENT);
+    let unit = usize::from(ALIGNMENT);
     (
-        offset / alignment,
-        (offset + usize::from(line.length) + (alignment - 1)) / alignment,
+        offset / unit,
+        (offset + usize::from(line.length) + (unit - 1)) / unit,
     )
 }
 

@@ -1,11 +1,15 @@
-ghost use Rattle.std.specs.Prelude.{◌≡◌, ◌≢◌, ◌+◌, ◌*◌, ◌≤◌, length};
-ghost use Rattle.heap_page.specs.Line.{line_at, line_count};
+ghost use Rattle.std.specs.Prelude.{◌≡◌, ◌≢◌, ◌+◌, ◌≤◌, ◌↔◌, length, IsTrue};
+ghost use Rattle.heap_page.specs.Layout.{bitmap_place};
+ghost use Rattle.heap_page.specs.Line.{IsNew, line_at, line_count};
 ghost use Rattle.heap_page.specs.Tuple.{header_at};
 ghost use Rattle.pg_bytes.specs.Numbers.{number_at};
-ghost use Rattle.pg_bytes.specs.PageLayout.{line_place, lower_of, upper_of};
+ghost use Rattle.pg_bytes.specs.PageLayout.{header_size, line_pointer_size, page_size};
+ghost use Rattle.pg_bytes.specs.PageLayout.{line_place, lower_of};
 
 use crate::header::Header;
-use pg_bytes::{LINE_POINTER, LinePtr, PAGE_HEADER, PD_LOWER, PD_UPPER, RowPtr, u16_at, u32_at};
+use pg_bytes::{
+    LINE_POINTER, LinePtr, PAGE_HEADER, PD_LOWER, PD_UPPER, Page, RowPtr, u16_at, u32_at,
+};
 
 // Where the fields of a tuple's header stand (`HeapTupleHeaderData` of htup_details.h).
 const T_XMIN: usize = 0;
@@ -20,33 +24,50 @@ const T_INFOMASK: usize = 20;
 
 const T_HOFF: usize = 22;
 
-// The line pointer of a number from 1.
-pub(crate) fn line_at(bytes: &[u8], k: u16) -> LinePtr
-    requires first { 1 ≤ k }
-    requires fits { line_place k + 4 ≤ length bytes.now }
-    ensures { result ≡ line_at bytes.now k }
+// The bytes of a tuple header without a null bitmap, aligned (`MAXALIGN(SizeofHeapTupleHeader)`).
+pub(crate) const LEAST_HEADER: u8 = 24;
+
+// Where a tuple's null bitmap begins (`SizeofHeapTupleHeader`).
+pub(crate) const NULL_BITMAP: u16 = 23;
+
+// The alignment of tuples and of their attributes (`MAXIMUM_ALIGNOF`).
+pub(crate) const ALIGNMENT: u16 = 8;
+
+// Whether nothing was put on the page yet.
+pub(crate) fn is_new(page: &Page) -> bool
+    ensures { IsTrue result ↔ IsNew page.now }
 {
-    LinePtr::of_word(u32_at(bytes, PAGE_HEADER + LINE_POINTER * (usize::from(k) - 1)))
+    u16_at(page.bytes(), PD_UPPER) == 0
 }
 
 // How many line pointers a page has.
-pub(crate) fn lines_of(bytes: &[u8]) -> u16
-    requires size { length bytes.now ≡ 8192 }
-    requires header { upper_of bytes.now ≢ 0 → 24 ≤ lower_of bytes.now }
-    ensures { result ≡ line_count bytes.now }
+pub(crate) fn lines_of(page: &Page) -> u16
+    requires { (IsNew page.now → ⊥) → header_size ≤ lower_of page.now }
+    ensures { result ≡ line_count page.now }
 {
-    if u16_at(bytes, PD_UPPER) == 0 {
+    if is_new(page) {
         0
     } else {
-        (u16_at(bytes, PD_LOWER) - PAGE_HEADER as u16) / LINE_POINTER as u16
+        (u16_at(page.bytes(), PD_LOWER) - PAGE_HEADER as u16) / LINE_POINTER as u16
     }
 }
 
-// The tuple header at a place.
-pub(crate) fn header_at(bytes: &[u8], place: usize) -> Header
-    requires { place + 23 ≤ length bytes.now }
-    ensures { result ≡ header_at bytes.now place }
+// The line pointer of an item.
+pub(crate) fn line_at(page: &Page, item: u16) -> LinePtr
+    requires first { 1 ≤ item }
+    requires fits { line_place item + line_pointer_size ≤ page_size }
+    ensures { result ≡ line_at page.now item }
 {
+    let place = PAGE_HEADER + LINE_POINTER * (usize::from(item) - 1);
+    LinePtr::of_word(u32_at(page.bytes(), place))
+}
+
+// The tuple header at a place.
+pub(crate) fn header_at(page: &Page, place: usize) -> Header
+    requires { place + bitmap_place ≤ page_size }
+    ensures { result ≡ header_at page.now place }
+{
+    let bytes = page.bytes();
     Header {
         xmin: u32_at(bytes, place + T_XMIN),
         xmax: u32_at(bytes, place + T_XMAX),
@@ -59,9 +80,9 @@ pub(crate) fn header_at(bytes: &[u8], place: usize) -> Header
 
 // The number of one byte at a place.
 #[tactic(auto, unfolding(pg_bytes::specs::Numbers::number_at))]
-fn byte_at(bytes: &[u8], at: usize) -> u8
-    requires { at + 1 ≤ length bytes.now }
-    ensures { result ≡ number_at 1 bytes.now at }
+fn byte_at(bytes: &[u8], place: usize) -> u8
+    requires { place + 1 ≤ length bytes.now }
+    ensures { result ≡ number_at 1 bytes.now place }
 {
-    bytes[at]
+    bytes[place]
 }

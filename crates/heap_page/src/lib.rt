@@ -20,10 +20,30 @@
 //! exactly where one of the normal items among them has a part in it. So the time is linear in the
 //! page, and no memory is taken.
 //!
-//! What the layers above may rely on: a `View` is a page without a fault. Each line pointer, tuple
-//! header and tuple of it can be read where it stands, no two tuples share a byte
-//! (`items_are_apart`), and each is settled as a row or not (`items_are_whole`). Whether chains of
-//! updates lead where they should is not asked here, since that concerns several items.
+//! # What it promises
+//!
+//! - `check_page` refuses exactly the pages that have a fault, and tells the least one: the least
+//!   item, and at that item the least cause. A page has one least fault at most
+//!   (`least_page_fault_is_one`). It takes no memory.
+//! - A `View` is a page without a fault. Each line pointer, tuple header and tuple of it can be
+//!   read where it stands, and what is read is what the format says of the page's bytes.
+//! - No two tuples of such a page share a byte (`items_are_apart`), and each ends on the page
+//!   (`items_are_whole`).
+//! - Each tuple that `check_page` lets pass is settled, and `state` says of a settled tuple whether
+//!   it is a row, by the table of hint bits in `specs/Visibility.antt`.
+//!
+//! # What is not
+//!
+//! - Whether chains of updates lead where they should, since that concerns several items. A ctid is
+//!   read and followed nowhere here.
+//! - Whether the attributes behind a tuple's header can be read: the bytes of an item are given as
+//!   they stand.
+//! - Whether the hint bits are true. They are taken as the page has them, and no transaction is
+//!   looked up.
+//! - The checksum, the LSN and the rest of a new page, which `PageIsVerified` asks to be zero: a
+//!   page is new by `pd_upper` alone.
+//! - Bytes that no item has: the hole, and those between an item's end and the next multiple of
+//!   eight.
 #![tactic(auto)]
 
 mod check;
@@ -35,17 +55,14 @@ mod laws;
 mod layout;
 mod row_state;
 mod units;
+mod used_page;
 mod view;
 
 pub use check::check_page;
 pub use fault::{PageCause, PageFault};
 pub use header::Header;
-pub use infomask::{
-    HEAP_HASNULL, HEAP_HOT_UPDATED, HEAP_LOCK_MASK, HEAP_MOVED, HEAP_NATTS_MASK, HEAP_ONLY_TUPLE,
-    HEAP_XMAX_COMMITTED, HEAP_XMAX_EXCL_LOCK, HEAP_XMAX_INVALID, HEAP_XMAX_IS_MULTI,
-    HEAP_XMAX_LOCK_ONLY, HEAP_XMIN_COMMITTED, HEAP_XMIN_INVALID, Infomask, Infomask2,
-};
-pub use laws::{items_are_apart, items_are_whole};
+pub use infomask::{Infomask, Infomask2};
+pub use laws::{items_are_apart, items_are_whole, least_page_fault_is_one};
 pub use row_state::{RowState, state};
 pub use view::View;
 

@@ -23,8 +23,8 @@ pub fn state(header: &Header) -> RowState
 }
 
 impl RowState {
-    // What the hint bits alone say of a tuple. None comes exactly where they don't settle it. A lock
-    // is asked for before a multixact, since a multixact of lockers alone deletes nothing.
+    // What the hint bits alone say of a tuple. None comes exactly where they don't settle it. A
+    // lock is asked for before a multixact, since a multixact of lockers alone deletes nothing.
     pub(crate) fn known(infomask: Infomask) -> Option<RowState>
         ensures { result ≡ state_of infomask.0 }
     {

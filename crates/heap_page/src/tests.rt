@@ -2,63 +2,34 @@ use crate::check::check_page;
 use crate::header::Header;
 use crate::row_state::{RowState, state};
 use crate::view::View;
-use pg_bytes::{Page, PageBuf, RowPtr};
-use std::alloc::Global;
+use pg_bytes::{PAGE, Page, RowPtr};
+use std::alloc::{AllocError, Global};
 use std::process::Abort;
 use std::test::Fail;
-
-// Writes bytes at a place of the page.
-fn put(rt: &impl Abort, page: &mut PageBuf, place: usize, bytes: &[u8]) {
-    assert!(rt; bytes.len() <= 8192);
-    assert!(rt; place <= 8192 - bytes.len());
-    page.put_slice(place, bytes);
-}
+use test_pages::{Line, Tuple, heap_page, put};
 
 // A page of rows of one int4 each, with these infomasks: row k stands 32 * k bytes below the page's
 // end, under line pointer k.
-fn page_of_rows(rt: &impl Abort, alloc: Global, infomasks: &[u16]) -> Result<PageBuf, Fail> {
-    let mut page = PageBuf::new(alloc, 8)?;
-    assert!(rt; infomasks.len() <= 100);
-    let rows = infomasks.len() as u16;
-    put(rt, &mut page, 12, &(24 + 4 * rows).to_le_bytes());
-    put(rt, &mut page, 14, &(8192 - 32 * rows).to_le_bytes());
-    put(rt, &mut page, 16, &[0x00, 0x20, 0x04, 0x20]);
-    for (row, infomask) in infomasks.iter().enumerate() {
-        put_row(rt, &mut page, row, *infomask);
+fn page_of_rows(alloc: Global, infomasks: &[u16]) -> Result<Vec<u8>, AllocError> {
+    let mut lines = Vec::new(alloc);
+    for (offset, infomask) in (1..1000u16).zip(infomasks) {
+        lines.push(Line::Normal(Tuple {
+            offset,
+            infomask: *infomask,
+            ..Tuple::row(&[0; 4])
+        }))?;
     }
-    Ok(page)
+    heap_page(alloc, &lines)
 }
 
-// Row k of such a page, counted from 0.
-fn put_row(rt: &impl Abort, page: &mut PageBuf, row: usize, infomask: u16) {
-    assert!(rt; row < 100);
-    let place = 8160 - 32 * row;
-    put(
-        rt,
-        page,
-        24 + 4 * row,
-        &(0x0038_8000 + place as u32).to_le_bytes(),
-    );
-    put(rt, page, place, &[0xBC, 0x02, 0, 0]);
-    put(rt, page, place + 16, &[row as u8 + 1, 0, 1, 0]);
-    put(rt, page, place + 20, &infomask.to_le_bytes());
-    put(rt, page, place + 22, &[24, 0]);
-}
-
-// The page that was written, to be read.
-fn written(buffer: &PageBuf) -> Page<'_> {
-    match Page::of(buffer.bytes()) {
-        Some(page) => page,
-        None => unreachable!(),
-    }
-}
-
-// What the check says of a page of one column: how many lines it has, or the fault's item and cause.
-fn verdict(page: &PageBuf) -> Result<u16, (u16, u8)> {
-    match check_page(&written(page), 1) {
+// What the check says of a page of one column: how many lines it has, or the fault's item and
+// cause.
+fn verdict(bytes: &[u8]) -> Option<Result<u16, (u16, u8)>> {
+    let page = Page::of(bytes)?;
+    Some(match check_page(&page, 1) {
         Ok(view) => Ok(view.lines()),
         Err(fault) => Err((fault.item, fault.cause)),
-    }
+    })
 }
 
 #[test]
@@ -141,36 +112,26 @@ fn tells_the_least_fault(rt: HostRuntime) -> Result<(), Fail> {
         ),
     ];
     for (name, place, bytes, wanted) in cases {
-        let mut page = page_of_rows(&rt, rt.alloc(), &[0x0900; 3])?;
-        put(&rt, &mut page, place, bytes);
-        assert_eq!(rt; verdict(&page), wanted, "{name}");
+        let mut page = page_of_rows(rt.alloc(), &[0x0900; 3])?;
+        put(&mut page, place, bytes);
+        assert_eq!(rt; verdict(&page), Some(wanted), "{name}");
     }
     Ok(())
 }
 
-// A page that holds one byte throughout.
-fn page_of_byte(alloc: Global, byte: u8) -> Result<PageBuf, Fail> {
-    let mut page = PageBuf::new(alloc, 8)?;
-    for place in 0..8192 {
-        page.put_slice(place, &[byte]);
-    }
-    Ok(page)
-}
-
 #[test]
 fn checks_pages_without_rows(rt: HostRuntime) -> Result<(), Fail> {
-    let ones = page_of_byte(rt.alloc(), 0xFF)?;
-    assert_eq!(rt; verdict(&ones), Err((0, 1)));
+    let ones = vec![in rt.alloc(); 0xFFu8; PAGE]?;
+    assert_eq!(rt; verdict(&ones), Some(Err((0, 1))));
 
-    let mut unused = page_of_byte(rt.alloc(), 0)?;
-    assert_eq!(rt; verdict(&unused), Ok(0), "new");
+    let mut unused = vec![in rt.alloc(); 0u8; PAGE]?;
+    assert_eq!(rt; verdict(&unused), Some(Ok(0)), "new");
     put(
-        &rt,
         &mut unused,
         12,
         &[0x00, 0x20, 0x00, 0x20, 0x00, 0x20, 0x04, 0x20],
     );
-    assert_eq!(rt; verdict(&unused), Ok(2042), "unused line pointers");
+    assert_eq!(rt; verdict(&unused), Some(Ok(2042)), "unused line pointers");
     Ok(())
 }
 
@@ -220,14 +181,14 @@ fn settles_tuples_by_their_hint_bits(rt: HostRuntime) {
 #[test]
 fn reads_a_page_of_settled_rows(rt: HostRuntime) -> Result<(), Fail> {
     let unsettled = page_of_rows(
-        &rt,
         rt.alloc(),
         &[0x01C0, 0x0140, 0x1180, 0x0B00, 0x0A00, 0x0800],
     )?;
-    assert_eq!(rt; verdict(&unsettled), Err((6, 4)));
+    assert_eq!(rt; verdict(&unsettled), Some(Err((6, 4))));
 
-    let settled = page_of_rows(&rt, rt.alloc(), &[0x01C0, 0x0140, 0x1180, 0x0B00, 0x0A00])?;
-    match check_page(&written(&settled), 1) {
+    let settled = page_of_rows(rt.alloc(), &[0x01C0, 0x0140, 0x1180, 0x0B00, 0x0A00])?;
+    let page = Page::of(&settled).ok_or("not a page")?;
+    match check_page(&page, 1) {
         Ok(view) => reads_the_last_row(&rt, &view),
         Err(_) => assert!(rt; false, "no fault"),
     }
@@ -257,7 +218,7 @@ fn reads_the_last_row(rt: &impl Abort, view: &View) {
     assert_eq!(rt; state(&header), RowState::Dead);
     assert_eq!(rt; header.infomask2_bits().attributes(), 1);
     assert!(rt; !header.infomask2_bits().is_hot_updated());
-    assert!(rt; !header.infomask2_bits().is_heap_only());
+    assert!(rt; !header.is_heap_only());
     assert!(rt; header.infomask_bits().xmin_invalid());
     assert_eq!(rt; view.item(5).len(), 28);
 }

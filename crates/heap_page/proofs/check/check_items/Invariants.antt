@@ -1,5 +1,9 @@
-use Rattle.heap_page.specs.Units.{IsMap, IsSoundBelow}
+use Rattle.heap_page.specs.Pass.Faults.{IsSoundBelow}
+use Rattle.heap_page.specs.Pass.Units.{IsMapBelow}
 use Rattle.heap_page.proofs.check.check_items.Given as goal
 
-abbrev pub invariant-loop-k : goal.invariant-loop-k
-invariant-loop-k l = record { sound : IsSoundBelow l.bytes l.columns l.k; map : IsMap l.bytes l.k l.units.marked }
+abbrev pub invariant-loop-item : goal.invariant-loop-item
+invariant-loop-item l = record {
+  sound : IsSoundBelow l.page.bytes l.page.columns l.item;
+  map : IsMapBelow l.page.bytes l.item l.units.marked;
+}

@@ -8,13 +8,13 @@ use Rattle.heap_page.proofs.item.check_normal.Goals as goal
 
 pub returns-clause-map : goal.returns-clause-map
 returns-clause-map c =
-    marked-map c.args.bytes.now c.args.k c.args.units.now.marked c.mark.new.self.marked c.args.line c.units_of-first.result.0 c.units_of-first.result.1
+    marked-map c.args.page.now.bytes c.args.item c.args.units.now.marked c.mark.new.self.marked c.args.line c.units_of-first.result.0 c.units_of-first.result.1
     c.requires.line c.requires.map c.requires.normal (λ bad. false≢true (c.if-is_misplaced.ensures.1 bad))
     c.units_of-first.ensures.first c.units_of-first.ensures.end c.mark.ensures
 
 pub returns-then-not-is_settled-clause-refused : goal.returns-then-not-is_settled-clause-refused
 returns-then-not-is_settled-clause-refused c =
-    let here : c.header_at-header.result ≡ header_of c.args.bytes.now c.args.k =
-    c.header_at-header.ensures ∙ ap (header_at c.args.bytes.now) (c.from.ensures ∙ ap (λ (l : LinePtr). l.offset) c.requires.line) in
-    unsettled-least c.args.bytes.now c.args.columns c.args.k c.args.line c.header_at-header.result c.requires.line here c.requires.normal
+    let here : c.header_at-header.result ≡ header_of c.args.page.now.bytes c.args.item =
+    c.header_at-header.ensures ∙ ap (header_at c.args.page.now.bytes) (c.from.ensures ∙ ap (λ (l : LinePtr). l.offset) c.requires.line) in
+    unsettled-least c.args.page.now.bytes c.args.page.now.columns c.args.item c.args.line c.header_at-header.result c.requires.line here c.requires.normal
     (λ bad. false≢true (c.if-is_misplaced.ensures.1 bad)) (λ bad. false≢true (c.if-is_unfit.ensures.1 bad)) (λ known. false≢true (c.if-not-is_settled.ensures.1 known))

@@ -5,6 +5,6 @@ use Rattle.heap_page.proofs.view.View.header.Goals as goal
 
 pub header_at-requires : goal.header_at-requires
 header_at-requires c =
-    let same : c.self.inside.bytes.now ≡ c.args.self.now.bytes = ap (λ (v : CheckedPage). v.bytes) c.self.view_is in
-    let inside = sound-item-read c.self.inside.bytes.now c.self.inside.columns c.args.k c.line.result (rw same c.line.ensures) c.self.invariant.1 (rw same c.requires) in
+    let same : c.self.inside.page ≡ c.args.self.now.bytes = ap (λ (v : CheckedPage). v.bytes) c.self.view_is in
+    let inside = sound-item-read c.self.inside.page c.self.inside.columns c.args.item c.line.result (rw same c.line.ensures) c.self.invariant (rw same c.requires) in
     omega arith

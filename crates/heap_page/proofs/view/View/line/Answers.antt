@@ -5,5 +5,5 @@ use Rattle.heap_page.proofs.view.View.line.Goals as goal
 
 pub line_at-requires-clause-fits : goal.line_at-requires-clause-fits
 line_at-requires-clause-fits c =
-    let same : c.self.inside.bytes.now ≡ c.args.self.now.bytes = ap (λ (v : CheckedPage). v.bytes) c.self.view_is in
-    rw c.self.invariant.0 (sound-line c.self.inside.bytes.now c.self.inside.columns c.args.k c.self.invariant.1 (rw same c.requires))
+    let same : c.self.inside.page ≡ c.args.self.now.bytes = ap (λ (v : CheckedPage). v.bytes) c.self.view_is in
+    sound-line c.self.inside.page c.self.inside.columns c.args.item c.self.invariant (rw same c.requires)
