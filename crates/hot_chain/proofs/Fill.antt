@@ -1,78 +1,94 @@
--- What the walks from the greatest start down to one keep.
-use Rattle.std.proofs.Common.{◌≡◌, inl, inr, ℕ, zero, suc, ◌+◌, ◌<◌, ◌≤◌, List, length, get_or, refl, sym, ap, subst, ◌∙◌, arith}
-use Rattle.std.proofs.lemmas.List.{get_or_past}
+-- What the walks from the greatest start down to the first line pointer keep.
+use Rattle.std.proofs.Common.{◌≡◌, IfSome, IfNone, replicate, inl, inr, ℕ, ◌+◌, ◌≤◌, List, Option, Some, None, length, refl, sym, subst, ◌∙◌, arith}
 use Rattle.std.proofs.lemmas.Bool.{cases_lt}
-use Rattle.hot_chain.specs.Orbit.{item_behind, Reaches, AreLinks, IsSettled, IsClosed, IsWalked, AreRoots}
+use Rattle.std.proofs.lemmas.List.{get_or_past, get_or-replicate, length-replicate}
+use Rattle.std.proofs.lemmas.Option.{none-some}
+use Rattle.heap_page.specs.Line.{line_count}
+use Rattle.hot_chain.specs.Chain.{HasMember, IsHeapOnly, IsInNoChain}
+use Rattle.hot_chain.specs.Roots.{IsGreatestStart, IsRoot}
+use Rattle.hot_chain.specs.Pass.RootOffsets.{root_offset, IsClosed, IsWalked, AreGreatestFrom}
+use Rattle.hot_chain.proofs.ChainLemmas.{member-of-line}
+use Rattle.hot_chain.proofs.Walk.{cases_option}
 
-pub record IsFilling (nexts heads : List ℕ) (from : ℕ) (roots : List ℕ) : Type 0 where
-  pub room : length roots ≡ length nexts
-  pub closed : IsClosed nexts roots
-  pub exact : AreRoots nexts heads from roots
+-- the starts from a number on are walked
+pub record IsFilling (page : List ℕ) (from : ℕ) (offsets : List (Option ℕ)) : Type 0 where
+  pub room : length offsets ≡ line_count page + 1
+  pub closed : IsClosed page offsets
+  pub greatest : AreGreatestFrom page from offsets
 
--- nothing is behind no item
-pub behind_none : (nexts : List ℕ) → AreLinks nexts → (steps : ℕ) → item_behind nexts 0 steps ≡ 0
-behind_none nexts links zero = refl
-behind_none nexts links (suc steps) = ap (λ (k : ℕ). item_behind nexts k steps) links.none ∙ behind_none nexts links steps
+-- where there is none there is none
+none_of_nones : (n item : ℕ) → root_offset (replicate n None) item ≡ None
+none_of_nones n item =
+    elim (cases_lt item n) as (λ _. root_offset (replicate n None) item ≡ None) [
+      | inl inside ↦ get_or-replicate n item None None inside
+      | inr past ↦ get_or_past (replicate n None) item None (omega (arith, length-replicate {A = Option ℕ} n None))
+    ]
 
-not_settled : (roots : List ℕ) (item : ℕ) → 0 < item → get_or roots item 0 ≡ 0 → IsSettled roots item → ⊥
-not_settled roots item positive bare (inl e) = omega arith
-not_settled roots item positive bare (inr has) = omega arith
-
-pub fill_begins : (nexts heads roots : List ℕ) (from : ℕ) → AreLinks nexts → length roots ≡ length nexts → length heads ≤ from → ((item : ℕ) → get_or roots item 0 ≡ 0) → IsFilling nexts heads from roots
-fill_begins nexts heads roots from links room last empty = record {
-  room = room;
-  closed = record {
-    follows = λ k s.
-        elim s as (λ _. IsSettled roots (get_or nexts k 0)) [
-          | inl e ↦ inl (ap (λ (j : ℕ). get_or nexts j 0) e ∙ links.none)
-          | inr has ↦ absurd (let bare = empty k in omega arith)
-        ];
-  };
-  exact = record {
-    member = λ k has. absurd (let bare = empty k in omega arith);
-    greatest = λ k start positive has r. absurd (let bare = empty k in omega arith);
-    none = λ k start positive bare after r.
-        let none : get_or heads start 0 ≡ 0 = get_or_past heads start 0 (omega arith) in
-        let ends : item_behind nexts 0 r.0 ≡ 0 = behind_none nexts links r.0 in
-        let there : item_behind nexts 0 r.0 ≡ k = ap (λ (j : ℕ). item_behind nexts j r.0) (sym none) ∙ r.1 in
-        omega arith;
+-- no start is walked, and no item has a root offset
+pub fill_begins : (page : List ℕ) (from : ℕ) → from ≡ line_count page + 1 → IsFilling page from (replicate from None)
+fill_begins page from last = record {
+  room = length-replicate {A = Option ℕ} from None ∙ last;
+  closed = record { next = λ item next has f. absurd (none-some has.0 (sym (none_of_nones from item) ∙ has.1)) };
+  greatest = record {
+    some = λ item start has. absurd (none-some start (sym (none_of_nones from item) ∙ has));
+    none = λ item start bare after m. let line = member-of-line page start item m in omega (arith, line.1);
   };
 }
 
-module _ (nexts heads : List ℕ) (from start : ℕ) (old new : List ℕ) (next : from ≡ start + 1) (before : AreRoots nexts heads from old) (w : IsWalked nexts start (get_or heads start 0) old new) where
-  pub fill_steps : AreRoots nexts heads start new
-  fill_steps = record {
-    member = λ k has.
-        elim (cases_lt 0 (get_or old k 0)) as (λ _. Reaches nexts (get_or heads (get_or new k 0) 0) k) [
-          | inl had ↦ (let same = w.kept k had in rw same (before.member k had))
-          | inr bare ↦ (let got = w.given k (omega arith) has in rw (got.0) (got.1))
-        ];
-    greatest = λ k other positive has r.
-        elim (cases_lt 0 (get_or old k 0)) as (λ _. other ≤ get_or new k 0) [
-          | inl had ↦ (let same = w.kept k had in let least = before.greatest k other positive had r in omega arith)
-          | inr bare ↦ (
-              let got = w.given k (omega arith) has in
-              elim (cases_lt start other) as (λ _. other ≤ get_or new k 0) [
-                | inl greater ↦ absurd (before.none k other positive (omega arith) (omega arith) r)
-                | inr upto ↦ omega (arith, got.0)
-              ])
-        ];
-    none = λ k other positive bare after r.
-        elim (cases_lt 0 (get_or old k 0)) as (λ _. ⊥) [
-          | inl had ↦ (let same = w.kept k had in omega arith)
-          | inr was ↦ (
-              elim (cases_lt start other) as (λ _. ⊥) [
-                | inl greater ↦ before.none k other positive (omega arith) (omega arith) r
-                | inr upto ↦ (
-                    let same : other ≡ start = omega arith in
-                    not_settled new k positive bare (w.reached k (subst (λ (s : ℕ). Reaches nexts (get_or heads s 0) k) same r)))
-              ])
-        ];
-  }
-
-pub fill_ends : (nexts heads roots : List ℕ) (from : ℕ) → from ≤ 1 → AreRoots nexts heads from roots → AreRoots nexts heads 1 roots
-fill_ends nexts heads roots from least a = record {
-  member = a.member;
-  greatest = a.greatest;
-  none = λ item start positive bare after r. a.none item start positive bare (omega arith) r;
+-- the start was walked, and those above it before
+pub fill_steps : (page : List ℕ) (from start : ℕ) (old new : List (Option ℕ)) → from ≡ start + 1 → AreGreatestFrom page from old → IsWalked page start old new → AreGreatestFrom page start new
+fill_steps page from start old new next before w = record {
+  some = λ item other has.
+      elim (cases_option (root_offset old item)) as (λ _. IsGreatestStart page item other) [
+        | inl bare ↦
+            let got = w.given item other bare has in
+            let greatest : (higher : ℕ) → HasMember page higher item → higher ≤ start =
+            λ higher m.
+            elim (cases_lt start higher) as (λ _. higher ≤ start) [
+              | inl above ↦ absurd (before.none item higher bare (omega arith) m)
+              | inr upto ↦ upto
+            ] in
+            subst (λ (k : ℕ). IsGreatestStart page item k) (sym got.0) (got.1, greatest)
+        | inr had ↦ before.some item other (had.1 ∙ sym (w.kept item had.0 had.1) ∙ has)
+      ];
+  none = λ item other bare after m.
+      elim (cases_option (root_offset old item)) as (λ _. ⊥) [
+        | inl was ↦
+            elim (cases_lt start other) as (λ _. ⊥) [
+              | inl above ↦ before.none item other was (omega arith) m
+              | inr upto ↦
+                  let same : other ≡ start = omega arith in
+                  let has = w.reached item (subst (λ (k : ℕ). HasMember page k item) same m) in
+                  none-some has.0 (sym bare ∙ has.1)
+            ]
+        | inr had ↦ none-some had.0 (sym bare ∙ w.kept item had.0 had.1)
+      ];
 }
+
+-- the starts from 1 on are all
+pub fill_ends : (page : List ℕ) (from : ℕ) (offsets : List (Option ℕ)) → from ≤ 1 → AreGreatestFrom page from offsets → AreGreatestFrom page 1 offsets
+fill_ends page from offsets least greatest = record {
+  some = greatest.some;
+  none = λ item start bare after m. greatest.none item start bare (omega arith) m;
+}
+
+-- a fact of the value that there is, and one where there is none
+some_of : (o : Option ℕ) (P : ℕ → Type 0) → ((x : ℕ) → o ≡ Some x → P x) → IfSome o P
+some_of None P f = tt
+some_of (Some x) P f = f x refl
+
+none_of : (o : Option ℕ) (P : Type 0) → (o ≡ None → P) → IfNone o P
+none_of None P f = f refl
+none_of (Some x) P f = tt
+
+-- where all starts are walked, the root offset of a heap-only item is its root, and one that has none is in no chain
+pub heap_only_root : (page : List ℕ) (offsets : List (Option ℕ)) (item : ℕ) → AreGreatestFrom page 1 offsets → IsHeapOnly page item
+    → IfSome (root_offset offsets item) (IsRoot page item)
+heap_only_root page offsets item greatest only =
+    some_of (root_offset offsets item) (IsRoot page item) (λ start has. inr (only, greatest.some item start has))
+
+pub in_no_chain : (page : List ℕ) (offsets : List (Option ℕ)) (item : ℕ) → AreGreatestFrom page 1 offsets
+    → IfNone (root_offset offsets item) (IsInNoChain page item)
+in_no_chain page offsets item greatest =
+    none_of (root_offset offsets item) (IsInNoChain page item)
+    (λ bare start m. let line = member-of-line page start item m in greatest.none item start bare (omega (arith, line.0)) m)

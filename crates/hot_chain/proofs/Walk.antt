@@ -1,110 +1,137 @@
--- What the walk along one chain keeps, and that at its end the chain has its root.
-use Rattle.std.proofs.Common.{◌≡◌, ◌⊎◌, inl, inr, ℕ, zero, suc, ◌<◌, List, length, get_or, refl, sym, ap, subst, ◌∙◌, arith, get_or-set_other, get_or-set_same}
+-- What the walk along one chain keeps, and that at its end each member of the chain has a root offset.
+use Rattle.std.specs.List.{count_by}
+use Rattle.std.specs.Option.{is_none, is_some}
+use Rattle.std.proofs.Common.{true, false, cond, ◌≡◌, ◌⊎◌, inl, inr, ℕ, zero, suc, ◌+◌, ◌<◌, List, Option, Some, None, IfNone, IfSome, length, get_or, refl, sym, ap, subst, ◌∙◌, arith, get_or-set_other, get_or-set_same}
 use Rattle.std.proofs.Math.ListN.{set}
 use Rattle.std.proofs.lemmas.List.{length-set}
+use Rattle.std.proofs.lemmas.List.Sums.{sum_by-set}
 use Rattle.std.proofs.lemmas.Bool.{cases_eq}
-use Rattle.hot_chain.specs.Orbit.{item_behind, Reaches, AreLinks, IsSettled, IsClosed, IsWalked}
+use Rattle.std.proofs.lemmas.Option.{none-some, same_Some}
+use Rattle.heap_page.specs.Line.{line_count, IsNormal}
+use Rattle.hot_chain.specs.Chain.{Follows, IsHead, IsLast, IsNoStart, IsBehind, HasMember}
+use Rattle.hot_chain.specs.Pass.RootOffsets.{root_offset, HasRootOffset, IsClosed, IsWalked}
+use Rattle.hot_chain.proofs.ChainLemmas.{follows-is-one, head-is-one, head-is-member, next-is-member, member-is-normal}
 
--- the walk is at an item
-pub record IsWalking (nexts : List ℕ) (start head : ℕ) (old : List ℕ) (item : ℕ) (new : List ℕ) : Type 0 where
-  pub room : length new ≡ length nexts
-  pub place : item < length nexts
-  pub kept : (k : ℕ) → 0 < get_or old k 0 → get_or new k 0 ≡ get_or old k 0
-  pub given : (k : ℕ) → get_or old k 0 ≡ 0 → 0 < get_or new k 0 → (get_or new k 0 ≡ start) × Reaches nexts head k
-  pub here : Reaches nexts head item
-  pub follows : (k : ℕ) → IsSettled new k → IsSettled new (get_or nexts k 0) ⊎ (get_or nexts k 0 ≡ item)
-  pub begun : IsSettled new head ⊎ (head ≡ item)
+-- there is a value, or none
+pub cases_option : (o : Option ℕ) → (o ≡ None) ⊎ ((x : ℕ) × (o ≡ Some x))
+cases_option None = inl refl
+cases_option (Some x) = inr (x, refl)
 
--- one step further along the chain
-item_behind-suc : (nexts : List ℕ) (item steps : ℕ) → item_behind nexts item (suc steps) ≡ get_or nexts (item_behind nexts item steps) 0
-item_behind-suc nexts item zero = refl
-item_behind-suc nexts item (suc steps) = item_behind-suc nexts (get_or nexts item 0) steps
+-- The walk has come to an item, or to the chain's end.
+pub record IsWalking (page : List ℕ) (start : ℕ) (old : List (Option ℕ)) (reached : Option ℕ) (new : List (Option ℕ)) : Type 0 where
+  pub room : length new ≡ line_count page + 1
+  pub kept : (item other : ℕ) → root_offset old item ≡ Some other → root_offset new item ≡ Some other
+  pub given : (item other : ℕ) → root_offset old item ≡ None → root_offset new item ≡ Some other → (other ≡ start) × HasMember page start item
+  pub here : (item : ℕ) → reached ≡ Some item → HasMember page start item
+  pub next : (item next : ℕ) → HasRootOffset new item → Follows page item next → HasRootOffset new next ⊎ (reached ≡ Some next)
+  pub head : (head : ℕ) → IsHead page start head → HasRootOffset new head ⊎ (reached ≡ Some head)
 
-pub Reaches-next : (nexts : List ℕ) (item later : ℕ) → Reaches nexts item later → Reaches nexts item (get_or nexts later 0)
-Reaches-next nexts item later r = (suc r.0, item_behind-suc nexts item r.0 ∙ ap (λ (k : ℕ). get_or nexts k 0) r.1)
+-- what a call gave is the only thing of which the fact holds
+only : (Fact : ℕ → Type 0) → ((a b : ℕ) → Fact a → Fact b → a ≡ b) → (o : Option ℕ) → IfSome o Fact → IfNone o ((k : ℕ) → Fact k → ⊥) → (k : ℕ) → Fact k → o ≡ Some k
+only Fact one None some none k f = absurd (none k f)
+only Fact one (Some x) some none k f = ap (λ (n : ℕ). Some n) (one x k some f)
 
--- an item that has a root keeps it when another gets one
-settled_set : (new : List ℕ) (item start k : ℕ) → item < length new → 0 < start → IsSettled new k → IsSettled (set new item start) k
-settled_set new item start k inside positive (inl e) = inl e
-settled_set new item start k inside positive (inr has) =
-    elim (cases_eq k item) as (λ _. IsSettled (set new item start) k) [
-      | inl e ↦ inr (let e : k ≡ item = e in rw e (rw (get_or-set_same new item start 0 inside) positive))
-      | inr ne ↦ inr (rw (get_or-set_other new item k start 0 ne) has)
+holds_at : (Fact : ℕ → Type 0) (o : Option ℕ) (k : ℕ) → IfSome o Fact → o ≡ Some k → Fact k
+holds_at Fact None k some e = absurd (none-some k e)
+holds_at Fact (Some x) k some e = subst Fact (same_Some x k e) some
+
+-- an item that has a root offset has one when another gets one
+offset_set : (new : List (Option ℕ)) (item start k : ℕ) → item < length new → HasRootOffset new k → HasRootOffset (set new item (Some start)) k
+offset_set new item start k inside has =
+    elim (cases_eq k item) as (λ _. HasRootOffset (set new item (Some start)) k) [
+      | inl e ↦ (start, ap (λ (j : ℕ). get_or (set new item (Some start)) j None) e ∙ get_or-set_same new item (Some start) None inside)
+      | inr ne ↦ (has.0, get_or-set_other new item k (Some start) None ne ∙ has.1)
     ]
 
-settled_at : (new : List ℕ) (item start : ℕ) → item < length new → 0 < start → IsSettled (set new item start) item
-settled_at new item start inside positive = inr (rw (get_or-set_same new item start 0 inside) positive)
+offset_at : (new : List (Option ℕ)) (item start : ℕ) → item < length new → HasRootOffset (set new item (Some start)) item
+offset_at new item start inside = (start, get_or-set_same new item (Some start) None inside)
 
-pub walk_begins : (nexts : List ℕ) (start head : ℕ) (old : List ℕ) → length old ≡ length nexts → head < length nexts → IsClosed nexts old → IsWalking nexts start head old head old
-walk_begins nexts start head old room inside closed = record {
+pub walk_begins : (page : List ℕ) (start : ℕ) (old : List (Option ℕ)) (reached : Option ℕ) → length old ≡ line_count page + 1 → IsClosed page old
+    → IfSome reached (IsHead page start) → IfNone reached (IsNoStart page start) → IsWalking page start old reached old
+walk_begins page start old reached room closed some none = record {
   room = room;
-  place = inside;
-  kept = λ k h. refl;
-  given = λ k e h. absurd (omega arith);
-  here = (0, refl);
-  follows = λ k s. inl (closed.follows k s);
-  begun = inr refl;
+  kept = λ item other e. e;
+  given = λ item other bare has. absurd (none-some other (sym bare ∙ has));
+  here = λ item e. head-is-member page start item (holds_at (λ (k : ℕ). IsHead page start k) reached item some e);
+  next = λ item next has f. inl (closed.next item next has f);
+  head = λ head h. inr (only (λ (k : ℕ). IsHead page start k) (head-is-one page start) reached some none head h);
 }
 
-module _ (nexts : List ℕ) (start head : ℕ) (old : List ℕ) (item : ℕ) (new : List ℕ) (w : IsWalking nexts start head old item new) where
-  pub walk_steps : AreLinks nexts → 0 < start → get_or new item 0 ≡ 0 → IsWalking nexts start head old (get_or nexts item 0) (set new item start)
-  walk_steps links positive bare =
-      let inside : item < length new = omega (arith, w.room, w.place) in
-      record {
-        room = length-set new item start ∙ w.room;
-        place = links.inside item;
-        kept = λ k h.
-            elim (cases_eq k item) as (λ _. get_or (set new item start) k 0 ≡ get_or old k 0) [
-              | inl e ↦ (let had : get_or new k 0 ≡ get_or old k 0 = w.kept k h in let same : get_or new k 0 ≡ get_or new item 0 = ap (λ (j : ℕ). get_or new j 0) e in absurd (omega arith))
-              | inr ne ↦ get_or-set_other new item k start 0 ne ∙ w.kept k h
-            ];
-        given = λ k e h.
-            elim (cases_eq k item) as (λ _. (get_or (set new item start) k 0 ≡ start) × Reaches nexts head k) [
-              | inl same ↦ (ap (λ (j : ℕ). get_or (set new item start) j 0) same ∙ get_or-set_same new item start 0 inside, subst (λ (j : ℕ). Reaches nexts head j) (sym same) w.here)
-              | inr ne ↦ (let other : get_or (set new item start) k 0 ≡ get_or new k 0 = get_or-set_other new item k start 0 ne in let before = w.given k e (rw (← other) h) in (other ∙ before.0, before.1))
-            ];
-        here = Reaches-next nexts head item w.here;
-        follows = λ k s.
-            elim (cases_eq k item) as (λ _. IsSettled (set new item start) (get_or nexts k 0) ⊎ (get_or nexts k 0 ≡ get_or nexts item 0)) [
-              | inl same ↦ inr (ap (λ (j : ℕ). get_or nexts j 0) same)
-              | inr ne ↦ inl (
-                  elim (w.follows k (elim s as (λ _. IsSettled new k) [ inl e ↦ inl e | inr has ↦ inr (let other : get_or (set new item start) k 0 ≡ get_or new k 0 = get_or-set_other new item k start 0 ne in rw (← other) has) ]))
-                  as (λ _. IsSettled (set new item start) (get_or nexts k 0)) [
-                    | inl settled ↦ settled_set new item start (get_or nexts k 0) inside positive settled
-                    | inr here ↦ subst (λ (j : ℕ). IsSettled (set new item start) j) (sym here) (settled_at new item start inside positive)
-                  ])
-            ];
-        begun = inl (
-            elim w.begun as (λ _. IsSettled (set new item start) head) [
-              | inl settled ↦ settled_set new item start head inside positive settled
-              | inr here ↦ subst (λ (j : ℕ). IsSettled (set new item start) j) (sym here) (settled_at new item start inside positive)
-            ]);
-      }
+module _ (page : List ℕ) (start : ℕ) (old : List (Option ℕ)) (reached : Option ℕ) (new : List (Option ℕ)) (w : IsWalking page start old reached new) where
+  pub here_normal : (item : ℕ) → reached ≡ Some item → IsNormal page item
+  here_normal item e = member-is-normal page start item (w.here item e)
 
-  pub walk_closes : IsSettled new item → IsClosed nexts new
-  walk_closes ended = record {
-    follows = λ k s.
-        elim (w.follows k s) as (λ _. IsSettled new (get_or nexts k 0)) [
-          | inl settled ↦ settled
-          | inr here ↦ subst (λ (j : ℕ). IsSettled new j) (sym here) ended
-        ];
-  }
+  pub here_inside : (item : ℕ) → reached ≡ Some item → item < length new
+  here_inside item e = let normal = here_normal item e in omega (arith, w.room, normal.0.1)
 
--- along a closed table each item behind one that has a root has one
-reached_settled : (nexts roots : List ℕ) → IsClosed nexts roots → (steps head item : ℕ) → IsSettled roots head → item_behind nexts head steps ≡ item → IsSettled roots item
-reached_settled nexts roots closed zero head item s e = subst (λ (j : ℕ). IsSettled roots j) e s
-reached_settled nexts roots closed (suc steps) head item s e =
-    reached_settled nexts roots closed steps (get_or nexts head 0) item (closed.follows head s) e
+  module _ (item : ℕ) (at : reached ≡ Some item) (bare : root_offset new item ≡ None) (after : Option ℕ) (some : IfSome after (Follows page item)) (none : IfNone after (IsLast page item)) where
+    -- an item that has a root offset, or that the walk has come to, has one now
+    still : (k : ℕ) → HasRootOffset new k ⊎ (reached ≡ Some k) → HasRootOffset (set new item (Some start)) k
+    still k (inl has) = offset_set new item start k (here_inside item at) has
+    still k (inr here) = subst (λ (j : ℕ). HasRootOffset (set new item (Some start)) j) (same_Some item k (sym at ∙ here)) (offset_at new item start (here_inside item at))
 
-pub walk_ends : (nexts : List ℕ) (start head : ℕ) (old : List ℕ) (item : ℕ) (new : List ℕ) → IsWalking nexts start head old item new → IsSettled new item → IsWalked nexts start head old new
-walk_ends nexts start head old item new w ended =
-    let first : IsSettled new head =
-    elim w.begun as (λ _. IsSettled new head) [
-      | inl settled ↦ settled
-      | inr here ↦ subst (λ (j : ℕ). IsSettled new j) (sym here) ended
-    ] in
-    record {
+    pub walk_steps : IsWalking page start old after (set new item (Some start))
+    walk_steps = record {
+      room = length-set new item (Some start) ∙ w.room;
+      kept = λ k other e.
+          elim (cases_eq k item) as (λ _. root_offset (set new item (Some start)) k ≡ Some other) [
+            | inl same ↦ absurd (none-some other (sym bare ∙ ap (λ (j : ℕ). root_offset new j) (sym same) ∙ w.kept k other e))
+            | inr ne ↦ get_or-set_other new item k (Some start) None ne ∙ w.kept k other e
+          ];
+      given = λ k other e has.
+          elim (cases_eq k item) as (λ _. (other ≡ start) × HasMember page start k) [
+            | inl same ↦ (
+              same_Some other start (sym has ∙ ap (λ (j : ℕ). get_or (set new item (Some start)) j None) same ∙ get_or-set_same new item (Some start) None (here_inside item at)),
+              subst (λ (j : ℕ). HasMember page start j) (sym same) (w.here item at),
+            )
+            | inr ne ↦ w.given k other e (sym (get_or-set_other new item k (Some start) None ne) ∙ has)
+          ];
+      here = λ k e. next-is-member page start item k (w.here item at) (holds_at (λ (j : ℕ). Follows page item j) after k some e);
+      next = λ k next has f.
+          elim (cases_eq k item) as (λ _. HasRootOffset (set new item (Some start)) next ⊎ (after ≡ Some next)) [
+            | inl same ↦ inr (only (λ (j : ℕ). Follows page item j) (follows-is-one page item) after some none next (subst (λ (j : ℕ). Follows page j next) same f))
+            | inr ne ↦ inl (still next (w.next k next (has.0, sym (get_or-set_other new item k (Some start) None ne) ∙ has.1) f))
+          ];
+      head = λ head h. inl (still head (w.head head h));
+    }
+
+  module _ (ended : (item : ℕ) → reached ≡ Some item → HasRootOffset new item) where
+    ended_at : (k : ℕ) → HasRootOffset new k ⊎ (reached ≡ Some k) → HasRootOffset new k
+    ended_at k (inl has) = has
+    ended_at k (inr here) = ended k here
+
+    pub walk_closes : IsClosed page new
+    walk_closes = record { next = λ item next has f. ended_at next (w.next item next has f) }
+
+    behind_has : (steps item later : ℕ) → HasRootOffset new item → IsBehind page item steps later → HasRootOffset new later
+    behind_has zero item later has same = subst (λ (j : ℕ). HasRootOffset new j) same has
+    behind_has (suc steps) item later has b = behind_has steps b.0 later (walk_closes.next item b.0 has b.1) b.2
+
+    pub walk_ends : IsWalked page start old new
+    walk_ends = record {
       kept = w.kept;
       given = w.given;
-      reached = λ k r. reached_settled nexts new (walk_closes nexts start head old item new w ended) r.0 head k first r.1;
+      reached = λ item m. behind_has m.2.0 m.0 item (ended_at m.0 (w.head m.0 m.1)) m.2.1;
     }
+
+-- what the test of an item says
+pub is_bare : (o : Option ℕ) → is_some o ≡ false → o ≡ None
+is_bare None t = refl
+is_bare (Some x) t = cc
+
+pub is_given : (o : Option ℕ) → is_some o ≡ true → (x : ℕ) × (o ≡ Some x)
+is_given None t = cc
+is_given (Some x) t = (x, refl)
+
+-- the walk ends at an item that has a root offset
+pub ended_here : (reached : Option ℕ) (offsets : List (Option ℕ)) (item : ℕ) → reached ≡ Some item → HasRootOffset offsets item
+    → (k : ℕ) → reached ≡ Some k → HasRootOffset offsets k
+ended_here reached offsets item at has k e = subst (λ (j : ℕ). HasRootOffset offsets j) (same_Some item k (sym at ∙ e)) has
+
+-- fewer items are without a root offset once one more has it
+pub fewer_bare : (offsets : List (Option ℕ)) (item start : ℕ) → item < length offsets → root_offset offsets item ≡ None
+    → count_by is_none (set offsets item (Some start)) < count_by is_none offsets
+fewer_bare offsets item start inside bare =
+    let one : Option ℕ → ℕ = λ o. cond (is_none o) 1 0 in
+    let was : one (get_or offsets item None) ≡ 1 = ap one bare in
+    omega (arith, sum_by-set one offsets item (Some start) None inside)

@@ -12,11 +12,11 @@ pub enum RootCause {
 }
 
 impl RootCause {
-    ghost use Rattle.hot_chain.specs.Roots.{number_of_cause};
+    ghost use Rattle.hot_chain.specs.Roots.{number_of_root_cause};
 
     /// The number by which a fault tells its cause.
     pub fn number(self) -> u8
-        ensures { result ≡ number_of_cause self }
+        ensures { result ≡ number_of_root_cause self }
     {
         match self {
             RootCause::Orphan => 5,
@@ -33,6 +33,20 @@ pub enum RootFault {
     Item { item: u16, cause: u8 },
     /// Memory ran out.
     Memory,
+}
+
+impl RootFault {
+    ghost use Rattle.hot_chain.specs.Roots.{number_of_root_cause};
+
+    // The fault of an item.
+    pub(crate) fn of(item: u16, cause: RootCause) -> RootFault
+        ensures { result ≡ RootFault.Item item (number_of_root_cause cause) }
+    {
+        RootFault::Item {
+            item,
+            cause: cause.number(),
+        }
+    }
 }
 
 impl From<AllocError> for RootFault {

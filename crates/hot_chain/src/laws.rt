@@ -1,13 +1,14 @@
-ghost use Rattle.hot_chain.specs.Laws.{EachHasOneRoot, HeapOnlyIsNoRoot, RootsDiffer, RowsAreDetermined};
+ghost use Rattle.hot_chain.specs.Laws.{EachHasOneRoot, HasOneRootUnlessOrphan, HeapOnlyIsNoRoot, LeastChainFaultIsOne, RootsDiffer, RowsAreDetermined};
 
-/// A live item of a page whose rows are known has one root, so an index has one place for it. A law
-/// of the definitions: the call does nothing.
+/// A live item that isn't an orphan has one root, so each of a page with sound chains has one, and
+/// an index has one place for it. A law of the definitions: the call does nothing.
 pub fn each_has_one_root()
-    ensures { EachHasOneRoot }
+    ensures unless_orphan { HasOneRootUnlessOrphan }
+    ensures sound { EachHasOneRoot }
 {}
 
-/// No two live items of a sound page have the same root, so an index entry leads to one row
-/// (`README.HOT`). A law of the definitions: the call does nothing.
+/// No two live items of a page with sound chains have the same root, so an index entry leads to one
+/// row (`README.HOT`). A law of the definitions: the call does nothing.
 pub fn roots_differ()
     ensures { RootsDiffer }
 {}
@@ -22,4 +23,10 @@ pub fn heap_only_is_no_root()
 /// determined by the page's bytes. A law of the definitions: the call does nothing.
 pub fn rows_are_determined()
     ensures { RowsAreDetermined }
+{}
+
+/// The fault that is told of a page's chains is one, item and cause. A law of the definitions: the
+/// call does nothing.
+pub fn least_chain_fault_is_one()
+    ensures { LeastChainFaultIsOne }
 {}

@@ -1,4 +1,4 @@
-ghost use Rattle.std.specs.Prelude.{◌≡◌, [], ◌∷◌, ◌++◌, ◌<◌, ◌≤◌, length, get_or, IfOk, OnOk};
+ghost use Rattle.std.specs.Prelude.{◌≡◌, [], ◌∷◌, ◌++◌, ◌<◌, ◌≤◌, length, slice_get, IfOk, IsSomeAnd, OnOk};
 
 use std::alloc::{AllocError, Global};
 use std::marker::Model;
@@ -23,7 +23,8 @@ impl Model for Roots {
 
     ghost Value = { List Row };
 
-    ghost view = { λ roots. map (λ row. record { item = row.item; root = row.root }) roots.rows.items };
+    ghost view = { λ roots.
+        map (λ row. record { item = row.item; root = row.root }) roots.rows.items };
 
     ghost invariant = { λ roots. length roots.rows.items < 2 ^ 16 };
 }
@@ -60,7 +61,7 @@ impl Roots {
     /// The item of a row, counted from 0, by its line pointer's number.
     pub fn item(&self, i: u16) -> u16
         requires { i < length self.now }
-        ensures { (d : Row) → result ≡ (get_or self.now i d).item }
+        ensures { IsSomeAnd (slice_get self.now i) (λ row. row.item ≡ result) }
     {
         self.rows[usize::from(i)].item
     }
@@ -68,7 +69,7 @@ impl Roots {
     /// The root of a row, counted from 0: the line pointer under which an index has the row.
     pub fn root(&self, i: u16) -> u16
         requires { i < length self.now }
-        ensures { (d : Row) → result ≡ (get_or self.now i d).root }
+        ensures { IsSomeAnd (slice_get self.now i) (λ row. row.root ≡ result) }
     {
         self.rows[usize::from(i)].root
     }

@@ -1,34 +1,10 @@
-ghost use Rattle.std.specs.Prelude.{◌<◌};
-
 use crate::{RootFault, find_roots};
-use heap_page::{check_page, items_are_whole};
-use pg_bytes::{PAGE, Page};
-use std::alloc::{AllocError, Global};
+use heap_page::check_page;
+use pg_bytes::Page;
+use std::alloc::Global;
 use std::process::Abort;
 use std::test::Fail;
-
-// A line pointer of a page that is made by hand.
-#[derive(Clone, Copy)]
-enum Line {
-    Unused,
-    Redirect(u16),
-    Normal(Tuple),
-}
-
-#[derive(Clone, Copy)]
-struct Tuple {
-    xmin: u32,
-    xmax: u32,
-    block: u16,
-    offset: u16,
-    infomask2: u16,
-    infomask: u16,
-}
-
-// The bytes of a tuple, and of it with its alignment.
-const TUPLE: u32 = 28;
-
-const TUPLE_STEP: u16 = 32;
+use test_pages::{Line, Tuple, heap_page};
 
 // A chain of three versions: a dead tuple, a dead heap-only one, and a live heap-only one.
 const FIRST: Tuple = Tuple {
@@ -38,6 +14,9 @@ const FIRST: Tuple = Tuple {
     offset: 2,
     infomask2: 0x4001,
     infomask: 0x0500,
+    hoff: 24,
+    bitmap: &[],
+    values: &[1, 0, 0, 0],
 };
 
 const SECOND: Tuple = Tuple {
@@ -47,6 +26,9 @@ const SECOND: Tuple = Tuple {
     offset: 3,
     infomask2: 0xC001,
     infomask: 0x2500,
+    hoff: 24,
+    bitmap: &[],
+    values: &[2, 0, 0, 0],
 };
 
 const THIRD: Tuple = Tuple {
@@ -56,89 +38,34 @@ const THIRD: Tuple = Tuple {
     offset: 3,
     infomask2: 0x8001,
     infomask: 0x2900,
+    hoff: 24,
+    bitmap: &[],
+    values: &[3, 0, 0, 0],
 };
 
-fn put(bytes: &mut [u8], at: usize, value: &[u8]) {
-    for (place, byte) in bytes.iter_mut().skip(at).zip(value) {
-        *place = *byte;
-    }
-}
+// A live row that is no part of a chain.
+const ALONE: Tuple = Tuple {
+    xmin: 700,
+    xmax: 0,
+    block: 0,
+    offset: 0,
+    infomask2: 1,
+    infomask: 0x0900,
+    hoff: 24,
+    bitmap: &[],
+    values: &[4, 0, 0, 0],
+};
 
-fn put_tuple(bytes: &mut [u8], at: usize, tuple: &Tuple)
-    requires { at < 65536 }
-{
-    put(bytes, at, &tuple.xmin.to_le_bytes());
-    put(bytes, at + 4, &tuple.xmax.to_le_bytes());
-    put(bytes, at + 14, &tuple.block.to_le_bytes());
-    put(bytes, at + 16, &tuple.offset.to_le_bytes());
-    put(bytes, at + 18, &tuple.infomask2.to_le_bytes());
-    put(bytes, at + 20, &tuple.infomask.to_le_bytes());
-    put(bytes, at + 22, &[24]);
-}
-
-// Puts a line pointer, and its tuple just below the others; hands out where the tuples begin.
-fn put_line(bytes: &mut [u8], at: usize, upper: u16, line: &Line) -> u16 {
-    match line {
-        Line::Unused => upper,
-        Line::Redirect(target) => {
-            let word = u32::from(*target) + (2 << 15);
-            put(bytes, at, &word.to_le_bytes());
-            upper
-        }
-        Line::Normal(tuple) => {
-            let place = upper.saturating_sub(TUPLE_STEP);
-            let word = u32::from(place) + (1 << 15) + TUPLE * (1 << 17);
-            put(bytes, at, &word.to_le_bytes());
-            put_tuple(bytes, usize::from(place), tuple);
-            place
-        }
-    }
-}
-
-// A heap page with these line pointers.
-fn page_of(alloc: Global, lines: &[Line]) -> Result<Vec<u8>, AllocError> {
-    let mut bytes = vec![in alloc; 0u8; PAGE]?;
-    let mut lower = 24u16;
-    let mut upper = PAGE as u16;
-    for line in lines {
-        upper = put_line(&mut bytes, usize::from(lower), upper, line);
-        lower = lower.saturating_add(4);
-    }
-    put(&mut bytes, 12, &lower.to_le_bytes());
-    put(&mut bytes, 14, &upper.to_le_bytes());
-    put(&mut bytes, 16, &(PAGE as u16).to_le_bytes());
-    put(&mut bytes, 18, &0x2004u16.to_le_bytes());
-    Ok(bytes)
-}
-
-// The items and roots that are found on the page with these line pointers.
-fn found(alloc: Global, lines: &[Line]) -> Result<Result<Vec<(u16, u16)>, RootFault>, Fail> {
-    let bytes = page_of(alloc, lines)?;
-    let page = Page::of(&bytes).ok_or("not a page")?;
-    let view = check_page(&page, 1)?;
-    items_are_whole();
-    match find_roots(alloc, &view) {
-        Ok(roots) => {
-            let mut rows = Vec::new(alloc);
-            for i in 0..roots.rows() {
-                rows.push((roots.item(i), roots.root(i)))?;
-            }
-            Ok(Ok(rows))
-        }
-        Err(fault) => Ok(Err(fault)),
-    }
-}
-
+// A page of three line pointers, and its rows by item and root, or its fault.
 #[derive(Clone, Copy)]
 struct Case {
     name: &'static str,
-    lines: [Line; 3],
-    rows: &'static [(u16, u16)],
-    fault: Option<RootFault>,
+    lines: [Line<'static>; 3],
+    wanted: Result<&'static [(u16, u16)], RootFault>,
 }
 
-const fn fault(item: u16, cause: u8) -> Option<RootFault> {
-    Some(RootFault::Item { item, cause })
+const fn fault(item: u16, cause: u8) -> Result<&'static [(u16, u16)], RootFault> {
+    Err(RootFault::Item { item, cause })
 }
 
 #[test]
@@ -146,29 +73,79 @@ fn finds_the_roots_of_pages(rt: HostRuntime) -> Result<(), Fail> {
     let first = Line::Normal(FIRST);
     let second = Line::Normal(SECOND);
     let third = Line::Normal(THIRD);
-    let cycle = Tuple {
-        infomask: 0x0500,
-        infomask2: 0xC001,
-        ..FIRST
-    };
     let cases = [
         Case {
             name: "a chain of three versions",
             lines: [first, second, third],
-            rows: &[(3, 1)],
-            fault: None,
+            wanted: Ok(&[(3, 1)]),
         },
         Case {
             name: "a chain that was pruned",
             lines: [Line::Redirect(3), Line::Unused, third],
-            rows: &[(3, 1)],
-            fault: None,
+            wanted: Ok(&[(3, 1)]),
         },
+        Case {
+            name: "a chain of which a version is frozen",
+            lines: [
+                Line::Normal(Tuple {
+                    infomask: 0x0700,
+                    ..FIRST
+                }),
+                second,
+                third,
+            ],
+            wanted: Ok(&[(3, 1)]),
+        },
+        Case {
+            name: "rows that are no part of a chain",
+            lines: [Line::Normal(ALONE), Line::Dead, Line::Normal(ALONE)],
+            wanted: Ok(&[(1, 1), (3, 3)]),
+        },
+        Case {
+            name: "a ctid that names another block",
+            lines: [first, Line::Normal(Tuple { block: 7, ..SECOND }), third],
+            wanted: Ok(&[(3, 1)]),
+        },
+        Case {
+            name: "two redirects to one tuple",
+            lines: [Line::Redirect(3), Line::Redirect(3), third],
+            wanted: Ok(&[(3, 2)]),
+        },
+        Case {
+            name: "a cycle that nothing starts",
+            lines: [
+                Line::Normal(Tuple {
+                    infomask2: 0xC001,
+                    ..FIRST
+                }),
+                Line::Normal(Tuple {
+                    xmin: 101,
+                    xmax: 100,
+                    offset: 1,
+                    infomask2: 0xC001,
+                    ..FIRST
+                }),
+                Line::Unused,
+            ],
+            wanted: Ok(&[]),
+        },
+    ];
+    for case in &cases {
+        check(&rt, rt.alloc(), case)?;
+    }
+    Ok(())
+}
+
+#[test]
+fn tells_the_least_fault(rt: HostRuntime) -> Result<(), Fail> {
+    let first = Line::Normal(FIRST);
+    let second = Line::Normal(SECOND);
+    let third = Line::Normal(THIRD);
+    let cases = [
         Case {
             name: "a heap-only tuple alone",
             lines: [third, Line::Unused, Line::Unused],
-            rows: &[],
-            fault: fault(1, 5),
+            wanted: fault(1, 5),
         },
         Case {
             name: "a chain that an aborted update ends",
@@ -180,8 +157,12 @@ fn finds_the_roots_of_pages(rt: HostRuntime) -> Result<(), Fail> {
                 }),
                 third,
             ],
-            rows: &[],
-            fault: fault(3, 5),
+            wanted: fault(3, 5),
+        },
+        Case {
+            name: "a line pointer that was used again",
+            lines: [first, second, Line::Normal(Tuple { xmin: 103, ..THIRD })],
+            wanted: fault(3, 5),
         },
         Case {
             name: "two live versions on a chain",
@@ -193,35 +174,12 @@ fn finds_the_roots_of_pages(rt: HostRuntime) -> Result<(), Fail> {
                 }),
                 third,
             ],
-            rows: &[],
-            fault: fault(3, 6),
+            wanted: fault(3, 6),
         },
         Case {
-            name: "a cycle that nothing starts",
-            lines: [
-                Line::Normal(cycle),
-                Line::Normal(Tuple {
-                    xmin: 101,
-                    xmax: 100,
-                    offset: 1,
-                    ..cycle
-                }),
-                Line::Unused,
-            ],
-            rows: &[],
-            fault: None,
-        },
-        Case {
-            name: "a ctid that names another block",
-            lines: [first, Line::Normal(Tuple { block: 7, ..SECOND }), third],
-            rows: &[(3, 1)],
-            fault: None,
-        },
-        Case {
-            name: "two redirects to one tuple",
-            lines: [Line::Redirect(3), Line::Redirect(3), third],
-            rows: &[(3, 2)],
-            fault: None,
+            name: "two heap-only tuples that no chain has",
+            lines: [Line::Unused, third, third],
+            wanted: fault(2, 5),
         },
     ];
     for case in &cases {
@@ -231,12 +189,27 @@ fn finds_the_roots_of_pages(rt: HostRuntime) -> Result<(), Fail> {
 }
 
 fn check(rt: &impl Abort, alloc: Global, case: &Case) -> Result<(), Fail> {
-    match found(alloc, &case.lines)? {
-        Ok(rows) => {
-            assert_eq!(rt; rows.as_slice(), case.rows, "{}", case.name);
-            assert!(rt; case.fault.is_none(), "{}", case.name);
-        }
-        Err(fault) => assert_eq!(rt; Some(fault), case.fault, "{}", case.name),
+    match (found(alloc, &case.lines)?, case.wanted) {
+        (Ok(rows), Ok(wanted)) => assert_eq!(rt; rows.as_slice(), wanted, "{}", case.name),
+        (Err(fault), Err(wanted)) => assert_eq!(rt; fault, wanted, "{}", case.name),
+        _ => assert!(rt; false, "{}", case.name),
     }
     Ok(())
+}
+
+// The items and roots that are found on the page with these line pointers.
+fn found(alloc: Global, lines: &[Line]) -> Result<Result<Vec<(u16, u16)>, RootFault>, Fail> {
+    let bytes = heap_page(alloc, lines)?;
+    let page = Page::of(&bytes).ok_or("not a page")?;
+    let view = check_page(&page, 1)?;
+    match find_roots(alloc, &view) {
+        Ok(roots) => {
+            let mut rows = Vec::new(alloc);
+            for i in 0..roots.rows() {
+                rows.push((roots.item(i), roots.root(i)))?;
+            }
+            Ok(Ok(rows))
+        }
+        Err(fault) => Ok(Err(fault)),
+    }
 }
