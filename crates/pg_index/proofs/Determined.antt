@@ -6,102 +6,74 @@ use Rattle.std.proofs.lemmas.List.{get_or_default}
 use Rattle.std.proofs.lemmas.List.Elements.{Contains-get_or}
 use Rattle.std.proofs.lemmas.List.Sorted.{Contains-permutation, IsPermutation-sym, IsPermutation-trans, length_permutation}
 use Rattle.std.specs.Prelude.{◌<ℤ◌}
-use Rattle.heap_page.specs.Fault as page_stage
-use Rattle.heap_page.specs.declared.fault.PageCause.{PageCause}
-use Rattle.heap_page.specs.declared.fault.PageFault.{PageFault}
+use Rattle.pg_bytes.proofs.LeastFaults.{least-fault-is-one}
+use Rattle.heap_page.specs.Fault.{HasPageFault, number_of_page_cause}
 use Rattle.hot_chain.proofs.Ascending.{IsWithin, same_ascending}
 use Rattle.hot_chain.proofs.RootLaws.{same_rows}
-use Rattle.hot_chain.specs.Roots as chain_stage
-use Rattle.hot_chain.specs.Roots.{Row}
-use Rattle.hot_chain.specs.declared.fault.RootCause.{RootCause}
-use Rattle.hot_chain.specs.declared.fault.RootCause.TheVariants.{Orphan, SharedRoot}
+use Rattle.hot_chain.specs.Roots.{HasChainFault, Row, number_of_root_cause}
+use Rattle.btree_pack.specs.File.{most_rows}
 use Rattle.btree_pack.specs.declared.row.OneRow.{OneRow}
 use Rattle.pg_index.proofs.Swapping.{ascending_apart, no_equal_keys}
-use Rattle.pg_index.specs.HeapRows.{AreRowsBelow, HasUnread, IsHeapFault, IsPageFault, IsSoundHeap, IsSoundPage, NotWhole, OfBlock, TooLong, block_count, columns, page_of, row_of}
+use Rattle.pg_index.specs.HeapFile.{HasFileFault, IsWhole, block_count, number_of_file_cause, page_of}
+use Rattle.pg_index.specs.HeapRows.{AreRowsOfBlocksBelow, HasUnread, IsBlockFault, IsHeapFault, IsSoundBlock, IsSoundHeap, OfBlock, OfFile}
+use Rattle.pg_index.specs.Int4Row.{columns, row_of}
 use Rattle.pg_index.specs.Laws.{HeapRowsAreDetermined, OrderIsDetermined, OutcomeIsDetermined}
-use Rattle.pg_index.specs.Outcome.{Outcome, Usage, NotYet, Heap, Built, AreSorted, HasHeapOutcome, most_rows}
+use Rattle.pg_index.specs.Outcome.{AreSorted, Faulty, HasHeapOutcome, HeapOutcome, NotYet, Sorted}
 use Rattle.pg_index.specs.RowOrder.{HasEqualKeys}
-use Rattle.pg_index.specs.declared.fault.Form.TheVariants.{Statement, UnreadRow, EqualKeys, ManyRows}
+use Rattle.pg_index.specs.declared.fault.RowForm.TheVariants.{UnreadRow, EqualKeys, ManyRows}
+use Rattle.pg_index.specs.declared.heap_file.FileCause.{FileCause}
+use Rattle.pg_index.specs.declared.heap_file.FileCause.TheVariants.{NotWhole, TooLong}
 
--- two faults of which neither is behind the other are at one item, and have one number
-same_place : (item : ℕ) (cause : PageCause) (item' : ℕ) (cause' : PageCause) → page_stage.ComesBy item cause item' cause' → page_stage.ComesBy item' cause' item cause
-    → (item ≡ item') × (page_stage.number_of_cause cause ≡ page_stage.number_of_cause cause')
-same_place item cause item' cause' (inl less) (inl more) = absurd (omega arith)
-same_place item cause item' cause' (inl less) (inr same) = absurd (omega (arith, same.0))
-same_place item cause item' cause' (inr same) (inl more) = absurd (omega (arith, same.0))
-same_place item cause item' cause' (inr one) (inr other) = (one.0, omega (arith, one.1, other.1))
+-- a block's fault is one
+same_block_fault : (page : List ℕ) (i c j d : ℕ) → IsBlockFault page i c → IsBlockFault page j d → (i ≡ j) × (c ≡ d)
+same_block_fault page i c j d (inl x) (inl y) = least-fault-is-one number_of_page_cause (HasPageFault page columns) i c j d x y
+same_block_fault page i c j d (inl x) (inr y) = absurd (y.0 i x.cause x.there)
+same_block_fault page i c j d (inr x) (inl y) = absurd (x.0 j y.cause y.there)
+same_block_fault page i c j d (inr x) (inr y) = least-fault-is-one number_of_root_cause (HasChainFault page) i c j d x.1 y.1
 
--- the least fault of a page by itself is one
-same_page_fault : (page : List ℕ) (f g : PageFault) → page_stage.IsLeastFault page columns f → page_stage.IsLeastFault page columns g → f ≡ g
-same_page_fault page f g x y =
-    let place = same_place f.item x.cause g.item y.cause (x.least g.item y.cause y.there) (y.least f.item x.cause x.there) in
-    ap₂ (λ (i c : ℕ). record { item = i; cause = c }) place.0 (x.told ∙ place.1 ∙ sym y.told)
+-- a sound block has none
+no_block_fault : (page : List ℕ) (item cause : ℕ) → IsSoundBlock page → IsBlockFault page item cause → ⊥
+no_block_fault page item cause sound (inl x) = sound.0 item x.cause x.there
+no_block_fault page item cause sound (inr x) = sound.1 item x.1.cause x.1.there
 
--- an item that has a root is no orphan
-not_orphan : (page : List ℕ) (item root : ℕ) → chain_stage.IsRoot page item root → chain_stage.IsOrphan page item → ⊥
-not_orphan page item root (inl own) orphan = own.0 orphan.1
-not_orphan page item root (inr own) orphan = orphan.2 root own.1
+-- a file of whole blocks has no fault as a file
+no_file_fault : (heap : List ℕ) (of : FileCause) (block : ℕ) → IsWhole heap → HasFileFault heap of block → ⊥
+no_file_fault heap TooLong block whole fault = omega (arith, whole.0, fault.0)
+no_file_fault heap NotWhole block whole fault = fault.1 whole.1
 
--- an item has one of the two faults of chains at most
-same_cause : (page : List ℕ) (item : ℕ) (one other : RootCause) → chain_stage.HasFault page item one → chain_stage.HasFault page item other
-    → chain_stage.number_of_cause one ≡ chain_stage.number_of_cause other
-same_cause page item Orphan Orphan f g = refl
-same_cause page item SharedRoot SharedRoot f g = refl
-same_cause page item Orphan SharedRoot f g = absurd (not_orphan page item g.1.0 g.1.1 f)
-same_cause page item SharedRoot Orphan f g = absurd (not_orphan page item f.1.0 f.1.1 g)
-
--- the least fault of a page's chains is one
-same_chain_fault : (page : List ℕ) (i c j d : ℕ) → chain_stage.IsLeastFault page i c → chain_stage.IsLeastFault page j d → (i ≡ j) × (c ≡ d)
-same_chain_fault page i c j d x y =
-    let up : i ≤ j = x.least j y.kind y.there in
-    let down : j ≤ i = y.least i x.kind x.there in
-    let same : j ≡ i = omega arith in
-    let P : ℕ → Type 0 = λ k. chain_stage.HasFault page k y.kind in
-    (sym same, x.told ∙ same_cause page i x.kind y.kind x.there (subst P same y.there) ∙ sym y.told)
-
--- a page's fault is one
-same_fault_of_page : (page : List ℕ) (i c j d : ℕ) → IsPageFault page i c → IsPageFault page j d → (i ≡ j) × (c ≡ d)
-same_fault_of_page page i c j d (inl x) (inl y) =
-    let same = same_page_fault page (record { item = i; cause = c }) (record { item = j; cause = d }) x y in
-    (ap (λ (f : PageFault). f.item) same, ap (λ (f : PageFault). f.cause) same)
-same_fault_of_page page i c j d (inl x) (inr y) = absurd (y.0 i x.cause x.there)
-same_fault_of_page page i c j d (inr x) (inl y) = absurd (x.0 j y.cause y.there)
-same_fault_of_page page i c j d (inr x) (inr y) = same_chain_fault page i c j d x.1 y.1
-
--- a sound page has none
-no_page_fault : (page : List ℕ) (item cause : ℕ) → IsSoundPage page → IsPageFault page item cause → ⊥
-no_page_fault page item cause sound (inl x) = sound.0 item x.cause x.there
-no_page_fault page item cause sound (inr x) = sound.1 item x.1.kind x.1.there
+-- the fault of a file as a whole is one
+same_file_fault : (heap : List ℕ) (of of' : FileCause) (b b' : ℕ) → HasFileFault heap of b → HasFileFault heap of' b'
+    → (b ≡ b') × (number_of_file_cause of ≡ number_of_file_cause of')
+same_file_fault heap TooLong TooLong b b' x y = (x.1 ∙ sym y.1, refl)
+same_file_fault heap NotWhole NotWhole b b' x y = (x.2 ∙ sym y.2, refl)
+same_file_fault heap TooLong NotWhole b b' x y = absurd (omega (arith, x.0, y.0))
+same_file_fault heap NotWhole TooLong b b' x y = absurd (omega (arith, x.0, y.0))
 
 -- a sound heap has none
 no_heap_fault : (heap : List ℕ) (block item cause : ℕ) → IsSoundHeap heap → IsHeapFault heap block item cause → ⊥
-no_heap_fault heap block item cause sound (TooLong long b i c) = omega (arith, sound.0.0)
-no_heap_fault heap block item cause sound (NotWhole short odd b i c) = odd sound.0.1
-no_heap_fault heap block item cause sound (OfBlock whole inside below fault) = no_page_fault (page_of heap block) item cause (sound.1 block inside) fault
+no_heap_fault heap block item cause sound (OfFile of fault i c) = no_file_fault heap of block sound.0 fault
+no_heap_fault heap block item cause sound (OfBlock whole inside below fault) =
+    no_block_fault (page_of heap block) item cause (sound.1 block inside) fault
 
 -- a heap's fault is one
 same_heap_fault : (heap : List ℕ) (b i c b' i' c' : ℕ) → IsHeapFault heap b i c → IsHeapFault heap b' i' c' → (b ≡ b') × (i ≡ i') × (c ≡ c')
-same_heap_fault heap b i c b' i' c' (TooLong long eb ei ec) (TooLong long' eb' ei' ec') = (eb ∙ sym eb', ei ∙ sym ei', ec ∙ sym ec')
-same_heap_fault heap b i c b' i' c' (NotWhole short odd eb ei ec) (NotWhole short' odd' eb' ei' ec') = (eb ∙ sym eb', ei ∙ sym ei', ec ∙ sym ec')
-same_heap_fault heap b i c b' i' c' (TooLong long eb ei ec) (NotWhole short odd eb' ei' ec') = absurd (omega arith)
-same_heap_fault heap b i c b' i' c' (NotWhole short odd eb ei ec) (TooLong long eb' ei' ec') = absurd (omega arith)
-same_heap_fault heap b i c b' i' c' (TooLong long eb ei ec) (OfBlock whole inside below fault) = absurd (omega (arith, whole.0))
-same_heap_fault heap b i c b' i' c' (OfBlock whole inside below fault) (TooLong long eb ei ec) = absurd (omega (arith, whole.0))
-same_heap_fault heap b i c b' i' c' (NotWhole short odd eb ei ec) (OfBlock whole inside below fault) = absurd (odd whole.1)
-same_heap_fault heap b i c b' i' c' (OfBlock whole inside below fault) (NotWhole short odd eb ei ec) = absurd (odd whole.1)
+same_heap_fault heap b i c b' i' c' (OfFile of x ei ec) (OfFile of' y ei' ec') =
+    let same = same_file_fault heap of of' b b' x y in (same.0, ei ∙ sym ei', ec ∙ same.1 ∙ sym ec')
+same_heap_fault heap b i c b' i' c' (OfFile of x ei ec) (OfBlock whole inside below fault) = absurd (no_file_fault heap of b whole x)
+same_heap_fault heap b i c b' i' c' (OfBlock whole inside below fault) (OfFile of x ei ec) = absurd (no_file_fault heap of b' whole x)
 same_heap_fault heap b i c b' i' c' (OfBlock whole inside below fault) (OfBlock whole' inside' below' fault') = elim (cases_order b b') [
   | inl same ↦
-      let P : ℕ → Type 0 = λ k. IsPageFault (page_of heap k) i' c' in
-      let rest = same_fault_of_page (page_of heap b) i c i' c' fault (subst P (sym same) fault') in
+      let P : ℕ → Type 0 = λ k. IsBlockFault (page_of heap k) i' c' in
+      let rest = same_block_fault (page_of heap b) i c i' c' fault (subst P (sym same) fault') in
       (same, rest.0, rest.1)
   | inr differ ↦ elim differ [
-    | inl less ↦ absurd (no_page_fault (page_of heap b) i c (below' b less) fault)
-    | inr more ↦ absurd (no_page_fault (page_of heap b') i' c' (below b' more) fault')
+    | inl less ↦ absurd (no_block_fault (page_of heap b) i c (below' b less) fault)
+    | inr more ↦ absurd (no_block_fault (page_of heap b') i' c' (below b' more) fault')
   ]
 ]
 
 -- the rows of the blocks below are one list
-same_rows_below : (heap : List ℕ) (block : ℕ) (a b : List OneRow) → AreRowsBelow heap block a → AreRowsBelow heap block b → a ≡ b
+same_rows_below : (heap : List ℕ) (block : ℕ) (a b : List OneRow) → AreRowsOfBlocksBelow heap block a → AreRowsOfBlocksBelow heap block b → a ≡ b
 same_rows_below heap zero a b x y = x ∙ sym y
 same_rows_below heap (suc block) a b x y =
     let before : x.0 ≡ y.0 = same_rows_below heap block x.0 y.0 x.1 y.1 in
@@ -134,75 +106,71 @@ same_order rows a b x y =
     (permuted_within b a (IsPermutation-sym a b there))
 
 -- a heap with a fault comes to nothing else
-only_fault : (heap : List ℕ) (block item cause : ℕ) (other : Outcome) → IsHeapFault heap block item cause → HasHeapOutcome heap other → Heap block item cause ≡ other
-only_fault heap block item cause (Usage word) fault has = absurd has
-only_fault heap block item cause (Heap block' item' cause') fault has =
+only_fault : (heap : List ℕ) (block item cause : ℕ) (other : HeapOutcome) → IsHeapFault heap block item cause → HasHeapOutcome heap other
+    → Faulty block item cause ≡ other
+only_fault heap block item cause (Faulty block' item' cause') fault has =
     let same = same_heap_fault heap block item cause block' item' cause' fault has in
-    ap (λ (b : ℕ). Heap b item cause) same.0 ∙ ap₂ (Heap block') same.1 same.2
-only_fault heap block item cause (NotYet Statement) fault has = absurd has
-only_fault heap block item cause (NotYet UnreadRow) fault has = absurd (no_heap_fault heap block item cause has.0 fault)
-only_fault heap block item cause (NotYet EqualKeys) fault has = absurd (no_heap_fault heap block item cause has.0 fault)
-only_fault heap block item cause (NotYet ManyRows) fault has = absurd (no_heap_fault heap block item cause has.0 fault)
-only_fault heap block item cause (Built sorted) fault has = absurd (no_heap_fault heap block item cause has.0 fault)
+    ap (λ (b : ℕ). Faulty b item cause) same.0 ∙ ap₂ (Faulty block') same.1 same.2
+only_fault heap block item cause (NotYet form) fault has = absurd (no_heap_fault heap block item cause has.0 fault)
+only_fault heap block item cause (Sorted sorted) fault has = absurd (no_heap_fault heap block item cause has.0 fault)
 
 -- nor does a sound heap with a row that can't be read
-only_unread : (heap : List ℕ) (other : Outcome) → IsSoundHeap heap → HasUnread heap → HasHeapOutcome heap other → NotYet UnreadRow ≡ other
-only_unread heap (Usage word) sound unread has = absurd has
-only_unread heap (Heap block item cause) sound unread has = absurd (no_heap_fault heap block item cause sound has)
-only_unread heap (NotYet Statement) sound unread has = absurd has
+only_unread : (heap : List ℕ) (other : HeapOutcome) → IsSoundHeap heap → HasUnread heap → HasHeapOutcome heap other → NotYet UnreadRow ≡ other
+only_unread heap (Faulty block item cause) sound unread has = absurd (no_heap_fault heap block item cause sound has)
 only_unread heap (NotYet UnreadRow) sound unread has = refl
-only_unread heap (NotYet EqualKeys) sound unread has = absurd (has.1 unread)
-only_unread heap (NotYet ManyRows) sound unread has = absurd (has.1 unread)
-only_unread heap (Built sorted) sound unread has = absurd (has.1 unread)
+only_unread heap (NotYet EqualKeys) sound unread has = absurd (has.1.0 unread)
+only_unread heap (NotYet ManyRows) sound unread has = absurd (has.1.0 unread)
+only_unread heap (Sorted sorted) sound unread has = absurd (has.1.0 unread)
 
 -- what a sound heap comes to whose rows are read, by its rows
-module _ (heap : List ℕ) (sound : IsSoundHeap heap) (read : HasUnread heap → ⊥) (rows : List OneRow) (are : AreRowsBelow heap (block_count heap) rows) where
+module _ (heap : List ℕ) (sound : IsSoundHeap heap) (read : HasUnread heap → ⊥) (rows : List OneRow) (are : AreRowsOfBlocksBelow heap (block_count heap) rows) where
   -- a fact of the heap's rows, whatever list they were
-  of_rows : (P : List OneRow → Type 0) (others : List OneRow) → AreRowsBelow heap (block_count heap) others → P others → P rows
+  of_rows : (P : List OneRow → Type 0) (others : List OneRow) → AreRowsOfBlocksBelow heap (block_count heap) others → P others → P rows
   of_rows P others they has = subst P (same_heap_rows heap others rows they are) has
 
   -- nor do rows of which two have one key
-  only_equal : (other : Outcome) → HasEqualKeys rows → HasHeapOutcome heap other → NotYet EqualKeys ≡ other
-  only_equal (Usage word) equal has = absurd has
-  only_equal (Heap block item cause) equal has = absurd (no_heap_fault heap block item cause sound has)
-  only_equal (NotYet Statement) equal has = absurd has
+  only_equal : (other : HeapOutcome) → HasEqualKeys rows → HasHeapOutcome heap other → NotYet EqualKeys ≡ other
+  only_equal (Faulty block item cause) equal has = absurd (no_heap_fault heap block item cause sound has)
   only_equal (NotYet UnreadRow) equal has = absurd (read has.1)
   only_equal (NotYet EqualKeys) equal has = refl
-  only_equal (NotYet ManyRows) equal has = absurd (of_rows (λ r. HasEqualKeys r → ⊥) has.2.0 has.2.1 has.2.2 equal)
-  only_equal (Built sorted) equal has = absurd (no_equal_keys rows sorted (of_rows (λ r. AreSorted r sorted) has.2.0 has.2.1 has.2.2) equal)
+  only_equal (NotYet ManyRows) equal has = let m = has.1.1 in absurd (of_rows (λ r. HasEqualKeys r → ⊥) m.0 m.1 m.2 equal)
+  only_equal (Sorted sorted) equal has =
+      let m = has.1.1 in absurd (no_equal_keys rows sorted (of_rows (λ r. AreSorted r sorted) m.0 m.1 m.2) equal)
 
   -- nor do rows that are too many
-  only_many : (other : Outcome) → (HasEqualKeys rows → ⊥) → most_rows < length rows → HasHeapOutcome heap other → NotYet ManyRows ≡ other
-  only_many (Usage word) differ many has = absurd has
-  only_many (Heap block item cause) differ many has = absurd (no_heap_fault heap block item cause sound has)
-  only_many (NotYet Statement) differ many has = absurd has
+  only_many : (other : HeapOutcome) → (HasEqualKeys rows → ⊥) → most_rows < length rows → HasHeapOutcome heap other → NotYet ManyRows ≡ other
+  only_many (Faulty block item cause) differ many has = absurd (no_heap_fault heap block item cause sound has)
   only_many (NotYet UnreadRow) differ many has = absurd (read has.1)
-  only_many (NotYet EqualKeys) differ many has = absurd (differ (of_rows HasEqualKeys has.2.0 has.2.1 has.2.2))
+  only_many (NotYet EqualKeys) differ many has = let m = has.1.1 in absurd (differ (of_rows HasEqualKeys m.0 m.1 m.2))
   only_many (NotYet ManyRows) differ many has = refl
-  only_many (Built sorted) differ many has =
-      let is = of_rows (λ r. AreSorted r sorted) has.2.0 has.2.1 has.2.2 in
+  only_many (Sorted sorted) differ many has =
+      let m = has.1.1 in
+      let is = of_rows (λ r. AreSorted r sorted) m.0 m.1 m.2 in
       let size : length sorted ≡ length rows = length_permutation rows sorted is.same in
-      absurd (omega (arith, has.2.3))
+      absurd (omega (arith, m.3))
 
   -- nor do rows that are in order: their order is one
-  only_built : (sorted : List OneRow) (other : Outcome) → AreSorted rows sorted → length sorted ≤ most_rows → HasHeapOutcome heap other → Built sorted ≡ other
-  only_built sorted (Usage word) is few has = absurd has
-  only_built sorted (Heap block item cause) is few has = absurd (no_heap_fault heap block item cause sound has)
-  only_built sorted (NotYet Statement) is few has = absurd has
-  only_built sorted (NotYet UnreadRow) is few has = absurd (read has.1)
-  only_built sorted (NotYet EqualKeys) is few has = absurd (no_equal_keys rows sorted is (of_rows HasEqualKeys has.2.0 has.2.1 has.2.2))
-  only_built sorted (NotYet ManyRows) is few has =
+  only_sorted : (sorted : List OneRow) (other : HeapOutcome) → AreSorted rows sorted → length sorted ≤ most_rows → HasHeapOutcome heap other
+      → Sorted sorted ≡ other
+  only_sorted sorted (Faulty block item cause) is few has = absurd (no_heap_fault heap block item cause sound has)
+  only_sorted sorted (NotYet UnreadRow) is few has = absurd (read has.1)
+  only_sorted sorted (NotYet EqualKeys) is few has =
+      let m = has.1.1 in absurd (no_equal_keys rows sorted is (of_rows HasEqualKeys m.0 m.1 m.2))
+  only_sorted sorted (NotYet ManyRows) is few has =
+      let m = has.1.1 in
       let size : length sorted ≡ length rows = length_permutation rows sorted is.same in
-      let many : most_rows < length rows = of_rows (λ r. most_rows < length r) has.2.0 has.2.1 has.2.3 in
+      let many : most_rows < length rows = of_rows (λ r. most_rows < length r) m.0 m.1 m.3 in
       absurd (omega arith)
-  only_built sorted (Built sorted') is few has = ap Built (same_order rows sorted sorted' is (of_rows (λ r. AreSorted r sorted') has.2.0 has.2.1 has.2.2))
+  only_sorted sorted (Sorted sorted') is few has =
+      let m = has.1.1 in ap Sorted (same_order rows sorted sorted' is (of_rows (λ r. AreSorted r sorted') m.0 m.1 m.2))
 
 -- so a heap comes to one outcome
 pub same_outcome : OutcomeIsDetermined
-same_outcome heap (Usage word) other has also = absurd has
-same_outcome heap (Heap block item cause) other has also = only_fault heap block item cause other has also
-same_outcome heap (NotYet Statement) other has also = absurd has
+same_outcome heap (Faulty block item cause) other has also = only_fault heap block item cause other has also
 same_outcome heap (NotYet UnreadRow) other has also = only_unread heap other has.0 has.1 also
-same_outcome heap (NotYet EqualKeys) other has also = only_equal heap has.0 has.1 has.2.0 has.2.1 other has.2.2 also
-same_outcome heap (NotYet ManyRows) other has also = only_many heap has.0 has.1 has.2.0 has.2.1 other has.2.2 has.2.3 also
-same_outcome heap (Built sorted) other has also = only_built heap has.0 has.1 has.2.0 has.2.1 sorted other has.2.2 has.2.3 also
+same_outcome heap (NotYet EqualKeys) other has also =
+    let m = has.1.1 in only_equal heap has.0 has.1.0 m.0 m.1 other m.2 also
+same_outcome heap (NotYet ManyRows) other has also =
+    let m = has.1.1 in only_many heap has.0 has.1.0 m.0 m.1 other m.2 m.3 also
+same_outcome heap (Sorted sorted) other has also =
+    let m = has.1.1 in only_sorted heap has.0 has.1.0 m.0 m.1 sorted other m.2 m.3 also

@@ -1,8 +1,9 @@
 -- A heap grows by what a read gives.
 use Rattle.std.proofs.Common.{◌≡◌, ℕ, ◌+◌, ◌-◌, ◌<◌, ◌≤◌, List, [], ◌++◌, length, take, drop, Option, Some, None, Ok, refl, sym, ap, ◌∙◌, arith, length-append, inl, inr}
 use Rattle.std.proofs.lemmas.List.{take-append-drop, take-take, drop-take, length-drop, length-take-le, take_all}
-use Rattle.pg_files.specs.Told.{FileMap, GivesBytes, HoldsBytes, Reads}
-use Rattle.pg_index.specs.HeapFile.{IsFront, IsReadOf, OnFile, OnToldFile, ReadsOn, most_bytes}
+use Rattle.pg_files.specs.Files.{GivesBytes, HoldsBytes, Reads, ToldGives}
+use Rattle.pg_files.specs.Outside.{FileMap, Outside}
+use Rattle.pg_index.specs.HeapFile.{IsFront, IsHeapOf, OnFile, OnToldFile, ReadsOn, most_bytes}
 
 -- a front of a list in two parts
 pub take-add : (m n : ℕ) (xs : List ℕ) → take m xs ++ take n (drop m xs) ≡ take (m + n) xs
@@ -34,11 +35,15 @@ on_file : (file : Option (List ℕ)) (heap buffer : List ℕ) (count : ℕ) → 
 on_file None heap buffer count room some gives = gives
 on_file (Some file) heap buffer count room some gives = front_more file heap buffer count room some gives
 
+told_on : (told : Option FileMap) (name heap buffer : List ℕ) (count : ℕ) → count ≤ length buffer → 0 < length buffer
+    → ToldGives told name (length heap) count buffer → OnToldFile told name (ReadsOn heap count (heap ++ take count buffer))
+told_on None name heap buffer count room some gives = tt
+told_on (Some files) name heap buffer count room some gives = on_file (files name) heap buffer count room some gives
+
 -- what a read gives of files that may not be told
-pub read_on : (told : Option FileMap) (name heap buffer : List ℕ) (count : ℕ) → count ≤ length buffer → 0 < length buffer → Reads told name (length heap) (Ok count) buffer
-    → OnToldFile told name (ReadsOn heap count (heap ++ take count buffer))
-read_on None name heap buffer count room some reads = tt
-read_on (Some files) name heap buffer count room some reads = on_file (files name) heap buffer count room some reads
+pub read_on : (outside : Outside) (name heap buffer : List ℕ) (count : ℕ) → count ≤ length buffer → 0 < length buffer
+    → Reads name (length heap) (Ok count) buffer outside → OnToldFile outside.files name (ReadsOn heap count (heap ++ take count buffer))
+read_on outside name heap buffer count room some reads = told_on outside.files name heap buffer count room some reads
 
 -- what was read so far is a front of the file: nothing, where the file is absent
 abbrev pub IsFrontSoFar : Option (List ℕ) → List ℕ → Type 0
@@ -67,22 +72,22 @@ pub has_more : (told : Option FileMap) (name heap : List ℕ) (count : ℕ) (new
 has_more None name heap count new front reads = tt
 has_more (Some files) name heap count new front reads = front_step (files name) heap count new front reads
 
-front_end : (file : Option (List ℕ)) (heap : List ℕ) (count : ℕ) (new : List ℕ) → IsFrontSoFar file heap → OnFile file (ReadsOn heap count new) → count ≡ 0 → OnFile file (IsReadOf new)
+front_end : (file : Option (List ℕ)) (heap : List ℕ) (count : ℕ) (new : List ℕ) → IsFrontSoFar file heap → OnFile file (ReadsOn heap count new) → count ≡ 0 → OnFile file (IsHeapOf new)
 front_end None heap count new front reads none = reads
 front_end (Some file) heap count new front reads none = inl ((reads front).1 none)
 
 -- at the file's end
 pub has_all : (told : Option FileMap) (name heap : List ℕ) (count : ℕ) (new : List ℕ) → HasFront told name heap → OnToldFile told name (ReadsOn heap count new) → count ≡ 0
-    → OnToldFile told name (IsReadOf new)
+    → OnToldFile told name (IsHeapOf new)
 has_all None name heap count new front reads none = tt
 has_all (Some files) name heap count new front reads none = front_end (files name) heap count new front reads none
 
-front_past : (file : Option (List ℕ)) (heap : List ℕ) → most_bytes < length heap → IsFrontSoFar file heap → OnFile file (IsReadOf heap)
+front_past : (file : Option (List ℕ)) (heap : List ℕ) → most_bytes < length heap → IsFrontSoFar file heap → OnFile file (IsHeapOf heap)
 front_past None heap past front = absurd (let none : length heap ≡ 0 = ap length front in omega arith)
 front_past (Some file) heap past front = inr (past, front)
 
 -- past the limit
-pub has_past : (told : Option FileMap) (name heap : List ℕ) → most_bytes < length heap → HasFront told name heap → OnToldFile told name (IsReadOf heap)
+pub has_past : (told : Option FileMap) (name heap : List ℕ) → most_bytes < length heap → HasFront told name heap → OnToldFile told name (IsHeapOf heap)
 has_past None name heap past front = tt
 has_past (Some files) name heap past front = front_past (files name) heap past front
 

@@ -1,15 +1,17 @@
 -- How a command ends.
-use Rattle.std.specs.Prelude.{◌≡◌, ℕ, [], Some, None}
+use Rattle.std.specs.Prelude.{◌≡◌, [], Option}
 use Rattle.pg_index.specs.Answer.{status_of}
+use Rattle.pg_index.specs.Run.{Counts}
 use Rattle.pg_index.specs.declared.ended.Ended.{Ended}
 use Rattle.pg_index.specs.declared.fault.Fault.{Fault}
 
--- the end of a build of so many rows and blocks
-abbrev pub IsBuilt : ℕ → ℕ → Ended → Type 0
-IsBuilt rows blocks end =
-    (end.status ≡ 0) × (end.fault ≡ None) × (end.claims ≡ []) × (end.rows ≡ rows) × (end.blocks ≡ blocks)
+-- the counts that an end tells
+abbrev pub counts_told : Ended → Counts
+counts_told end = record { rows = end.rows; blocks = end.blocks }
 
--- the end of a command that wasn't done
-abbrev pub IsRefused : Fault → Ended → Type 0
-IsRefused fault end =
-    (end.status ≡ status_of (Some fault)) × (end.fault ≡ Some fault) × (end.claims ≡ []) × (end.rows ≡ 0) × (end.blocks ≡ 0)
+-- the end with this fault or none, and these counts: no build has workers yet, so no claims are told
+pub record IsEnd (fault : Option Fault) (counts : Counts) (end : Ended) : Type 0 where
+  pub status : end.status ≡ status_of fault
+  pub fault_told : end.fault ≡ fault
+  pub claims : end.claims ≡ []
+  pub counts_are : counts_told end ≡ counts

@@ -3,7 +3,7 @@
 use Rattle.std.specs.Prelude.{◌≡◌, ℕ, List}
 use Rattle.btree_pack.specs.declared.row.OneRow.{OneRow}
 use Rattle.pg_index.specs.HeapRows.{AreHeapRows}
-use Rattle.pg_index.specs.Outcome.{AreSorted, HasHeapOutcome, Outcome}
+use Rattle.pg_index.specs.Outcome.{AreSorted, HasHeapOutcome, HeapOutcome}
 
 -- a heap has one list of rows at most
 abbrev pub HeapRowsAreDetermined : Type 0
@@ -15,4 +15,4 @@ OrderIsDetermined = (rows a b : List OneRow) → AreSorted rows a → AreSorted 
 
 -- a heap comes to one outcome at most: one fault, or one form, or the rows of one index
 abbrev pub OutcomeIsDetermined : Type 0
-OutcomeIsDetermined = (heap : List ℕ) (a b : Outcome) → HasHeapOutcome heap a → HasHeapOutcome heap b → a ≡ b
+OutcomeIsDetermined = (heap : List ℕ) (a b : HeapOutcome) → HasHeapOutcome heap a → HasHeapOutcome heap b → a ≡ b

@@ -1,14 +1,15 @@
 -- The order of an index's rows: that of their int4 keys (btint4cmp of nbtcompare.c).
-use Rattle.std.specs.Prelude.{◌≡◌, ◌≢◌, ℕ, ◌+◌, ◌<◌, ◌<ℤ◌, ◌≤ℤ◌, List, length, get_or}
+use Rattle.std.specs.Prelude.{◌≡◌, ◌≢◌, ℕ, ◌<◌, ◌<ℤ◌, ◌≤ℤ◌, List, length, get_or}
+use Rattle.std.specs.List.{AllAdjacentBelow}
 use Rattle.btree_pack.specs.declared.row.OneRow.{OneRow}
 
 -- no key is above the next
 abbrev pub KeysAscend : List OneRow → Type 0
-KeysAscend rows = (k : ℕ) (d : OneRow) → k + 1 < length rows → (get_or rows k d).key ≤ℤ (get_or rows (k + 1) d).key
+KeysAscend rows = AllAdjacentBelow (λ (row next : OneRow). row.key ≤ℤ next.key) rows (length rows)
 
 -- each key is below the next
 abbrev pub KeysStrictlyAscend : List OneRow → Type 0
-KeysStrictlyAscend rows = (k : ℕ) (d : OneRow) → k + 1 < length rows → (get_or rows k d).key <ℤ (get_or rows (k + 1) d).key
+KeysStrictlyAscend rows = AllAdjacentBelow (λ (row next : OneRow). row.key <ℤ next.key) rows (length rows)
 
 -- two of the rows have one key
 pub record HasEqualKeys (rows : List OneRow) : Type 0 where

@@ -1,82 +1,77 @@
 -- What a build answers, and what it leaves outside.
 use Rattle.std.specs.Prelude.{◌≡◌, ◌⊎◌, ℕ, List, length, Option, Some, None}
-use Rattle.pg_files.specs.Told.{FileMap, Says}
+use Rattle.pg_files.specs.Outside.{OnlyReads, Outside}
 use Rattle.btree_pack.specs.File.{one_leaf_file}
 use Rattle.btree_pack.specs.declared.row.OneRow.{OneRow}
 use Rattle.pg_index.specs.Answer.{number_of_form}
-use Rattle.pg_index.specs.Deliver.{IsBroken}
-use Rattle.pg_index.specs.HeapFile.{OnToldFile}
-use Rattle.pg_index.specs.HeapRows.{block_count}
-use Rattle.pg_index.specs.IndexFile.{Holds}
-use Rattle.pg_index.specs.Outcome.{Outcome, Usage, NotYet, Heap, Built, AreStatements, HasHeapOutcome, IsAsked}
+use Rattle.pg_index.specs.HeapFile.{block_count}
+use Rattle.pg_index.specs.IndexFile.{Delivery, IsCutShort, IsDelivered, delivery}
+use Rattle.pg_index.specs.Outcome.{Outcome, Usage, Statement, OfHeap, Faulty, NotYet, Sorted}
+use Rattle.pg_index.specs.Outcome.{HasOutcome, IsReadCommand}
 use Rattle.pg_index.specs.Report.{report_of}
-use Rattle.pg_index.specs.Words.{IsInGrammar, IsUsageFault, word}
+use Rattle.pg_index.specs.Words.{index_name}
 use Rattle.pg_index.specs.declared.fault.Fault.{Fault}
 use Rattle.pg_index.specs.declared.fault.Fault.TheVariants as faults
-use Rattle.pg_index.specs.declared.fault.Form.{Form}
-use Rattle.pg_index.specs.declared.fault.Form.TheVariants.{Statement, UnreadRow, EqualKeys, ManyRows}
+use Rattle.pg_index.specs.declared.fault.Form.TheVariants as forms
 
--- the names of a build's two files
-abbrev pub heap_name : List (List ℕ) → List ℕ
-heap_name words = word words 2
+-- the fault that tells what a run came to: none where the rows are built
+abbrev pub fault_of : Outcome → Option Fault
+fault_of (Usage word) = Some (faults.Usage word)
+fault_of Statement = Some (faults.NotYet (number_of_form forms.Statement))
+fault_of (OfHeap (Faulty block item cause)) = Some (faults.Heap block item cause)
+fault_of (OfHeap (NotYet form)) = Some (faults.NotYet (number_of_form (forms.Rows form)))
+fault_of (OfHeap (Sorted sorted)) = None
 
-abbrev pub index_name : List (List ℕ) → List ℕ
-index_name words = word words 3
+-- how many rows and blocks are told
+pub record Counts : Type 0 where
+  pub rows : ℕ
+  pub blocks : ℕ
 
--- the outside as far as it is told: its files, and what was said
-abbrev pub Outside : Type 0
-Outside = Option FileMap × Option (List ℕ)
+-- where nothing was built
+abbrev pub no_counts : Counts
+no_counts = record { rows = 0; blocks = 0 }
 
--- What the words and the heap file come to, in the order of refusals: the words, the statements, the heap. Of a
--- heap file that isn't told nothing is said.
-abbrev pub HasOutcome : List (List ℕ) → Option FileMap → Outcome → Type 0
-HasOutcome words told (Usage fault) = IsUsageFault words fault
-HasOutcome words told (NotYet Statement) = IsInGrammar words × (AreStatements words → ⊥)
-HasOutcome words told (NotYet UnreadRow) = IsAsked words × OnToldFile told (heap_name words) (λ heap. HasHeapOutcome heap (NotYet UnreadRow))
-HasOutcome words told (NotYet EqualKeys) = IsAsked words × OnToldFile told (heap_name words) (λ heap. HasHeapOutcome heap (NotYet EqualKeys))
-HasOutcome words told (NotYet ManyRows) = IsAsked words × OnToldFile told (heap_name words) (λ heap. HasHeapOutcome heap (NotYet ManyRows))
-HasOutcome words told (Heap block item cause) = IsAsked words × OnToldFile told (heap_name words) (λ heap. HasHeapOutcome heap (Heap block item cause))
-HasOutcome words told (Built sorted) = IsAsked words × OnToldFile told (heap_name words) (λ heap. HasHeapOutcome heap (Built sorted))
+-- of an index of these rows
+abbrev pub counts_of : List OneRow → Counts
+counts_of sorted = record { rows = length sorted; blocks = block_count (one_leaf_file sorted) }
 
--- nothing outside was changed
-abbrev pub IsUnchanged : Outside → Outside → Type 0
-IsUnchanged old new = (new.0 ≡ old.0) × (new.1 ≡ old.1)
+-- what is delivered of these rows
+abbrev pub delivery_of : List (List ℕ) → List OneRow → Delivery
+delivery_of words sorted =
+    delivery (index_name words) (one_leaf_file sorted) (report_of (counts_of sorted).rows (counts_of sorted).blocks)
 
--- The index of the heap's rows is there, every other file is as before, and the report was said.
-abbrev pub IsBuilt : List (List ℕ) → List OneRow → Outside → Outside → Type 0
-IsBuilt words sorted old new =
-    Holds (index_name words) (one_leaf_file sorted) old.0 new.0
-    × Says (report_of (length sorted) (block_count (one_leaf_file sorted))) old.1 new.1
+-- what a run leaves outside and tells that carried out what it came to
+abbrev pub IsCarriedOut : List (List ℕ) → Outcome → Outside → Outside → Counts → Type 0
+IsCarriedOut words (Usage word) old new counts = OnlyReads old new × (counts ≡ no_counts)
+IsCarriedOut words Statement old new counts = OnlyReads old new × (counts ≡ no_counts)
+IsCarriedOut words (OfHeap (Faulty block item cause)) old new counts = OnlyReads old new × (counts ≡ no_counts)
+IsCarriedOut words (OfHeap (NotYet form)) old new counts = OnlyReads old new × (counts ≡ no_counts)
+IsCarriedOut words (OfHeap (Sorted sorted)) old new counts =
+    IsDelivered (delivery_of words sorted) old new × (counts ≡ counts_of sorted)
 
--- The index of the heap's rows, or its report, got no further than told.
-abbrev pub IsCutShort : List (List ℕ) → List OneRow → Outside → Outside → Type 0
-IsCutShort words sorted old new =
-    IsBroken (index_name words) (one_leaf_file sorted) (report_of (length sorted) (block_count (one_leaf_file sorted))) old.0 new.0 old.1 new.1
+-- a read fault or want of memory
+abbrev pub IsGivenUp : Option Fault → Type 0
+IsGivenUp fault = (fault ≡ Some faults.ReadFault) ⊎ (fault ≡ Some faults.OutOfMemory)
 
--- What a build came to and left, by its fault.
-abbrev pub Ends : List (List ℕ) → Outside → Outside → ℕ → ℕ → Option Fault → Type 0
-Ends words old new rows blocks None =
-    (sorted : List OneRow) × HasOutcome words old.0 (Built sorted) × IsBuilt words sorted old new
-    × (rows ≡ length sorted) × (blocks ≡ block_count (one_leaf_file sorted))
-Ends words old new rows blocks (Some faults.WriteFault) =
-    (sorted : List OneRow) × HasOutcome words old.0 (Built sorted) × IsCutShort words sorted old new
-Ends words old new rows blocks (Some (faults.Usage fault)) = HasOutcome words old.0 (Usage fault) × IsUnchanged old new
-Ends words old new rows blocks (Some (faults.Heap block item cause)) = HasOutcome words old.0 (Heap block item cause) × IsUnchanged old new
-Ends words old new rows blocks (Some (faults.NotYet number)) =
-    ((form : Form) × (number ≡ number_of_form form) × HasOutcome words old.0 (NotYet form)) × IsUnchanged old new
-Ends words old new rows blocks (Some faults.ReadFault) = IsAsked words × IsUnchanged old new
-Ends words old new rows blocks (Some faults.OutOfMemory) = IsAsked words × IsUnchanged old new
+-- How a run ends: it carried out what words and heap file came to; or the index and its report got no further than a
+-- write fault let them; or it gave up before anything was written.
+pub data Ends (words : List (List ℕ)) (old new : Outside) (counts : Counts) (fault : Option Fault) : Type 0 where
+  Done : (outcome : Outcome) → HasOutcome words old.files outcome → fault ≡ fault_of outcome
+      → IsCarriedOut words outcome old new counts → Ends words old new counts fault
+  Cut : (sorted : List OneRow) → HasOutcome words old.files (OfHeap (Sorted sorted)) → fault ≡ Some faults.WriteFault
+      → IsCutShort (delivery_of words sorted) old new → counts ≡ no_counts → Ends words old new counts fault
+  GivenUp : IsReadCommand words → IsGivenUp fault → OnlyReads old new → counts ≡ no_counts
+      → Ends words old new counts fault
 
--- the answer, unless the heap couldn't be read or memory ran out
-abbrev pub MayFail : Option Fault → Type 0 → Type 0
-MayFail fault answer = answer ⊎ (fault ≡ Some faults.ReadFault) ⊎ (fault ≡ Some faults.OutOfMemory)
+-- What else may be answered where words and heap file came to this: once words and statements are in order, a run may
+-- give up, and once the index is being written, a write may fail.
+abbrev pub MayAnswer : Outcome → Option Fault → Type 0
+MayAnswer (Usage word) fault = ⊥
+MayAnswer Statement fault = ⊥
+MayAnswer (OfHeap (Faulty block item cause)) fault = IsGivenUp fault
+MayAnswer (OfHeap (NotYet form)) fault = IsGivenUp fault
+MayAnswer (OfHeap (Sorted sorted)) fault = IsGivenUp fault ⊎ (fault ≡ Some faults.WriteFault)
 
--- What a build answers, by what the words and the heap file came to.
+-- what a build answers, by what the words and the heap file came to
 abbrev pub IsAnswered : Outcome → Option Fault → Type 0
-IsAnswered (Usage number) fault = fault ≡ Some (faults.Usage number)
-IsAnswered (NotYet Statement) fault = fault ≡ Some (faults.NotYet (number_of_form Statement))
-IsAnswered (NotYet UnreadRow) fault = MayFail fault (fault ≡ Some (faults.NotYet (number_of_form UnreadRow)))
-IsAnswered (NotYet EqualKeys) fault = MayFail fault (fault ≡ Some (faults.NotYet (number_of_form EqualKeys)))
-IsAnswered (NotYet ManyRows) fault = MayFail fault (fault ≡ Some (faults.NotYet (number_of_form ManyRows)))
-IsAnswered (Heap block item cause) fault = MayFail fault (fault ≡ Some (faults.Heap block item cause))
-IsAnswered (Built sorted) fault = MayFail fault ((fault ≡ None) ⊎ (fault ≡ Some faults.WriteFault))
+IsAnswered outcome fault = (fault ≡ fault_of outcome) ⊎ MayAnswer outcome fault

@@ -1,5 +1,6 @@
 -- The command line: build HEAP INDEX TABLE-STATEMENT INDEX-STATEMENT [options]. Words are counted from 1.
-use Rattle.std.specs.Prelude.{◌≡◌, ◌≢◌, ◌⊎◌, ℕ, zero, suc, ◌+◌, ◌-◌, ◌<◌, List, [], map, length, get_or, String, string_bytes, codes}
+use Rattle.std.specs.Prelude.{◌≡◌, ◌≢◌, ◌⊎◌, ℕ, zero, suc, ◌+◌, ◌-◌, ◌<◌}
+use Rattle.std.specs.Prelude.{List, [], map, length, get_or, String, string_bytes, codes}
 use Rattle.std.specs.Global.{Global}
 
 -- the words' texts
@@ -9,6 +10,13 @@ texts_of words = map string_bytes words
 -- a word by its number, empty where it is missing
 abbrev pub word : List (List ℕ) → ℕ → List ℕ
 word words k = get_or words (k - 1) []
+
+-- the names of a build's two files
+abbrev pub heap_name : List (List ℕ) → List ℕ
+heap_name words = word words 2
+
+abbrev pub index_name : List (List ℕ) → List ℕ
+index_name words = word words 3
 
 -- an option, each of which stands at most once: no workers beside the leader
 abbrev pub IsOption : List ℕ → Type 0

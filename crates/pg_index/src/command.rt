@@ -1,19 +1,20 @@
 ghost use Rattle.std.specs.Prelude.{◌≡◌, ◌↔◌, ℕ, Some, None, [], IsSome, IsTrue, IsErrOf, IfErr, IfOk};
-ghost use Rattle.pg_files.specs.Faults.{IsAnswerToEither, IsAnswerToFaults};
-ghost use Rattle.pg_files.specs.Told.{FileMap};
+ghost use Rattle.pg_files.specs.Faults.{IsAnswerToOutputFaults, IsAnswerToReadFaults};
+ghost use Rattle.pg_files.specs.Outside.{FileMap};
 ghost use Rattle.pg_index.specs.Answer.{number_of_form, status_of};
-ghost use Rattle.pg_index.specs.Outcome.{AreRead, AreStatements, Outcome};
-ghost use Rattle.pg_index.specs.Run.{Ends, HasOutcome, IsAnswered, heap_name, index_name};
-ghost use Rattle.pg_index.specs.Words.{IsInGrammar, IsUsageFault, texts_of};
+ghost use Rattle.pg_index.specs.Calls.BuiltIndex.{counts_of_index};
+ghost use Rattle.pg_index.specs.End.{counts_told};
+ghost use Rattle.pg_index.specs.Outcome.{AreReadStatements, HasOutcome, HasReadStatements, Outcome};
+ghost use Rattle.pg_index.specs.Run.{Ends, IsAnswered, no_counts};
+ghost use Rattle.pg_index.specs.Words.{IsInGrammar, IsUsageFault, heap_name, index_name, texts_of};
 
-use crate::deliver::{deliver, report};
+use crate::built_index::{BuiltIndex, build_index};
+use crate::deliver::deliver;
 use crate::ended::Ended;
 use crate::fault::{Fault, Form};
 use crate::gate::Gate;
 use crate::heap_file::read_heap;
-use crate::index_rows::index_rows;
 use crate::words::{Build, read_words};
-use btree_pack::one_leaf;
 use pg_files::Files;
 use std::alloc::Global;
 use std::thread::Threads;
@@ -44,14 +45,12 @@ pub fn run<Rt: Threads + Sync, F: Files, G: Gate + Sync>(
     _gate: &G,
 ) -> Ended
     // What it came to, and what it left outside.
-    ensures ends { Ends (texts_of words.now)
-        (F.files files.old, F.said files.old)
-        (F.files files.new, F.said files.new)
-        result.rows result.blocks result.fault }
+    ensures ends { Ends (texts_of words.now) (F.outside files.old) (F.outside files.new)
+        (counts_told result) result.fault }
 
     // What it answers where words and heap file come to this.
     ensures exact { (told : FileMap) (outcome : Outcome)
-        → F.files files.old ≡ Some told
+        → (F.outside files.old).files ≡ Some told
         → HasOutcome (texts_of words.now) (Some told) outcome
         → IsAnswered outcome result.fault }
 
@@ -60,75 +59,58 @@ pub fn run<Rt: Threads + Sync, F: Files, G: Gate + Sync>(
         → (result.fault ≡ Some (Fault.Usage fault)) ↔ IsUsageFault (texts_of words.now) fault }
     ensures statement { let words = texts_of words.now in
         (result.fault ≡ Some (Fault.NotYet (number_of_form Form.Statement)))
-        ↔ (IsInGrammar words × (AreStatements words → ⊥)) }
-    ensures read_fault { let heap = heap_name (texts_of words.now) in
-        IsAnswerToFaults (result.fault ≡ Some Fault.ReadFault)
-        (F.read_faults files.old heap) (F.read_faults files.new heap) }
-    ensures write_fault { let index = index_name (texts_of words.now) in
-        IsAnswerToEither (result.fault ≡ Some Fault.WriteFault)
-        (F.write_faults files.old index) (F.write_faults files.new index)
-        (F.say_faults files.old) (F.say_faults files.new) }
+        ↔ (IsInGrammar words × (HasReadStatements words → ⊥)) }
+    ensures read_fault { IsAnswerToReadFaults (result.fault ≡ Some Fault.ReadFault)
+        (heap_name (texts_of words.now)) (F.outside files.old) (F.outside files.new) }
+    ensures write_fault { IsAnswerToOutputFaults (result.fault ≡ Some Fault.WriteFault)
+        (index_name (texts_of words.now)) (F.outside files.old) (F.outside files.new) }
 
     // What else the end tells.
     ensures status { result.status ≡ status_of result.fault }
     ensures claims { result.claims ≡ [] }
-    ensures counts { IsSome result.fault → (result.rows ≡ 0) × (result.blocks ≡ 0) }
+    ensures counts { IsSome result.fault → counts_told result ≡ no_counts }
 {
     match build(alloc, words, files) {
-        Ok(built) => Ended::built(alloc, built.rows, built.blocks),
+        Ok(index) => Ended::built(alloc, index.rows, index.blocks),
         Err(fault) => Ended::refused(alloc, fault),
     }
 }
 
-// How much was built.
-#[derive(Clone, Copy, Debug)]
-struct Built {
-    rows: u64,
-    blocks: u32,
-}
-
-fn build<F: Files>(alloc: Global, words: &[String], files: &mut F) -> Result<Built, Fault>
-    ensures ok { IfOk result (λ built.
-        Ends (texts_of words.now)
-        (F.files files.old, F.said files.old)
-        (F.files files.new, F.said files.new)
-        built.rows built.blocks None) }
+// Builds an index and hands it back once it is delivered.
+fn build<F: Files>(alloc: Global, words: &[String], files: &mut F) -> Result<BuiltIndex, Fault>
+    ensures ok { IfOk result (λ index.
+        Ends (texts_of words.now) (F.outside files.old) (F.outside files.new)
+        (counts_of_index index) None) }
     ensures err { IfErr result (λ fault.
-        Ends (texts_of words.now)
-        (F.files files.old, F.said files.old)
-        (F.files files.new, F.said files.new)
-        0 0 (Some fault)) }
-    ensures read_fault { let heap = heap_name (texts_of words.now) in
-        IsAnswerToFaults (IsErrOf result Fault.ReadFault)
-        (F.read_faults files.old heap) (F.read_faults files.new heap) }
-    ensures write_fault { let index = index_name (texts_of words.now) in
-        IsAnswerToEither (IsErrOf result Fault.WriteFault)
-        (F.write_faults files.old index) (F.write_faults files.new index)
-        (F.say_faults files.old) (F.say_faults files.new) }
+        Ends (texts_of words.now) (F.outside files.old) (F.outside files.new)
+        no_counts (Some fault)) }
+    ensures read_fault { IsAnswerToReadFaults (IsErrOf result Fault.ReadFault)
+        (heap_name (texts_of words.now)) (F.outside files.old) (F.outside files.new) }
+    ensures write_fault { IsAnswerToOutputFaults (IsErrOf result Fault.WriteFault)
+        (index_name (texts_of words.now)) (F.outside files.old) (F.outside files.new) }
 {
     let asked = match read_words(words) {
         Ok(asked) => asked,
         Err(word) => return Err(Fault::Usage { word }),
     };
-    if !are_statements(&asked) {
+    if !are_read_statements(&asked) {
         return Err(Fault::not_yet(Form::Statement));
     }
     let heap = read_heap(alloc, files, asked.heap)?;
-    let rows = index_rows(alloc, &heap)?;
-    let image = one_leaf(alloc, &rows)?;
-    let built = Built {
-        rows: rows.len() as u64,
-        blocks: image.blocks(),
-    };
-    let text = report(alloc, built.rows, built.blocks)?;
-    deliver(files, asked.index, image.bytes(), text.as_bytes())?;
-    Ok(built)
+    let index = build_index(alloc, &heap)?;
+    deliver(
+        files,
+        asked.index,
+        index.image.bytes(),
+        index.report.as_bytes(),
+    )?;
+    Ok(index)
 }
 
 // Whether the statements are those that are read so far.
-fn are_statements(asked: &Build) -> bool
+fn are_read_statements(asked: &Build) -> bool
     ensures { IsTrue result
-        ↔ AreRead asked.now.table_statement.now asked.now.index_statement.now }
+        ↔ AreReadStatements asked.now.table_statement.now asked.now.index_statement.now }
 {
     asked.table_statement == TABLE_STATEMENT && asked.index_statement == INDEX_STATEMENT
 }

@@ -1,8 +1,7 @@
 ghost use Rattle.std.specs.Prelude.{◌≡◌, string_bytes, IsErr, IfOk, OnOk, OnErr};
-ghost use Rattle.pg_files.specs.Faults.{IsAnswerToEither};
-ghost use Rattle.pg_files.specs.Told.{Says};
-ghost use Rattle.pg_index.specs.Deliver.{IsBroken};
-ghost use Rattle.pg_index.specs.IndexFile.{Holds};
+ghost use Rattle.pg_files.specs.Faults.{IsAnswerToOutputFaults};
+ghost use Rattle.pg_files.specs.Outside.{OnlyWritesAndSays};
+ghost use Rattle.pg_index.specs.IndexFile.{IsCutShort, IsDelivered, delivery};
 ghost use Rattle.pg_index.specs.Report.{report_of};
 
 use crate::index_file::write_file;
@@ -23,15 +22,13 @@ pub fn deliver<F: Files>(
     image: &[u8],
     report: &[u8],
 ) -> Result<(), Failed>
-    ensures written { OnOk result (Holds name.now image.now (F.files files.old) (F.files files.new)) }
-    ensures said { OnOk result (Says report.now (F.said files.old) (F.said files.new)) }
-    ensures broken { OnErr result (IsBroken name.now image.now report.now
-        (F.files files.old) (F.files files.new)
-        (F.said files.old) (F.said files.new)) }
-    ensures read_faults { F.read_faults files.new ≡ F.read_faults files.old }
-    ensures faults { IsAnswerToEither (IsErr result)
-        (F.write_faults files.old name.now) (F.write_faults files.new name.now)
-        (F.say_faults files.old) (F.say_faults files.new) }
+    ensures done { OnOk result (IsDelivered (delivery name.now image.now report.now)
+        (F.outside files.old) (F.outside files.new)) }
+    ensures cut { OnErr result (IsCutShort (delivery name.now image.now report.now)
+        (F.outside files.old) (F.outside files.new)) }
+    ensures faults { IsAnswerToOutputFaults (IsErr result) name.now
+        (F.outside files.old) (F.outside files.new) }
+    ensures only { OnlyWritesAndSays name.now (F.outside files.old) (F.outside files.new) }
 {
     write_file(files, name, image)?;
     files.say(report)?;

@@ -1,5 +1,5 @@
 use crate::fault::Fault;
-use crate::gate::Claims;
+use block_claim::Claims;
 use std::alloc::Global;
 
 /// How a command ended.
@@ -18,12 +18,13 @@ pub struct Ended {
 }
 
 impl Ended {
-    ghost use Rattle.pg_index.specs.Answer.{status_of};
-    ghost use Rattle.pg_index.specs.End.{IsBuilt, IsRefused};
+    ghost use Rattle.std.specs.Prelude.{Some, None};
+    ghost use Rattle.pg_index.specs.End.{IsEnd};
+    ghost use Rattle.pg_index.specs.Run.{no_counts};
 
     /// The end of a command that wasn't done.
     pub fn refused(alloc: Global, fault: Fault) -> Ended
-        ensures { IsRefused fault result }
+        ensures { IsEnd (Some fault) no_counts result }
     {
         Ended {
             status: fault.status(),
@@ -36,7 +37,7 @@ impl Ended {
 
     /// The end of a build.
     pub fn built(alloc: Global, rows: u64, blocks: u32) -> Ended
-        ensures { IsBuilt rows blocks result }
+        ensures { IsEnd None (record { rows = rows; blocks = blocks }) result }
     {
         Ended {
             status: 0,

@@ -1,22 +1,30 @@
 ghost use Rattle.std.specs.Prelude.{◌≡◌};
 
-use crate::heap_file::ReadError;
-use crate::scan::ScanFault;
+use crate::heap_file::{FileFault, ReadError};
+use heap_page::PageFault;
+use hot_chain::RootFault;
 use pg_files::Failed;
 use std::alloc::AllocError;
 use thiserror::Error;
 
-/// The heaps and statements that aren't built yet.
+/// The rows that aren't built yet.
 #[derive(Clone, Copy, Debug, PartialEq, Eq)]
-pub enum Form {
-    /// Statements other than the two that are read.
-    Statement,
+pub enum RowForm {
     /// A live row without an int4 that can be read.
     UnreadRow,
     /// Two rows with one key.
     EqualKeys,
     /// More rows than one leaf holds.
     ManyRows,
+}
+
+/// What isn't built yet.
+#[derive(Clone, Copy, Debug, PartialEq, Eq)]
+pub enum Form {
+    /// Statements other than the two that are read.
+    Statement,
+    /// A heap of such rows.
+    Rows(RowForm),
 }
 
 impl Form {
@@ -28,10 +36,98 @@ impl Form {
     {
         match self {
             Form::Statement => 1,
-            Form::UnreadRow => 3,
-            Form::EqualKeys => 4,
-            Form::ManyRows => 5,
+            Form::Rows(RowForm::UnreadRow) => 3,
+            Form::Rows(RowForm::EqualKeys) => 4,
+            Form::Rows(RowForm::ManyRows) => 5,
         }
+    }
+}
+
+/// Why the rows of a heap weren't taken: the heap's first fault, by block, item and the number of
+/// its cause, or want of memory. Item 0 stands for the page or the file.
+#[derive(Clone, Copy, Debug, PartialEq, Eq)]
+pub enum LeadFault {
+    Row { block: u32, item: u16, cause: u8 },
+    Memory,
+}
+
+impl LeadFault {
+    ghost use Rattle.std.specs.Prelude.{IfErr};
+    ghost use Rattle.pg_index.specs.Calls.Lead.{IsChainFaultAt};
+
+    /// The fault of a block's page by itself.
+    pub fn of_page(block: u32, fault: PageFault) -> LeadFault
+        ensures { result ≡ LeadFault.Row block fault.item fault.cause }
+    {
+        LeadFault::Row {
+            block,
+            item: fault.item,
+            cause: fault.cause,
+        }
+    }
+
+    /// The fault of a block's chains.
+    pub fn of_chains(block: u32, fault: RootFault) -> LeadFault
+        ensures { IsChainFaultAt block fault result }
+    {
+        match fault {
+            RootFault::Item { item, cause } => LeadFault::Row { block, item, cause },
+            RootFault::Memory => LeadFault::Memory,
+        }
+    }
+}
+
+impl From<FileFault> for LeadFault {
+    ghost use Rattle.pg_index.specs.HeapFile.{number_of_file_cause};
+    ghost use Rattle.pg_index.specs.declared.fault.LeadFault.TheVariants.{Row};
+
+    ghost from_gives = { λ file fault.
+        fault ≡ Row file.block 0 (number_of_file_cause file.cause) };
+
+    fn from(file: FileFault) -> LeadFault {
+        LeadFault::Row {
+            block: file.block,
+            item: 0,
+            cause: file.cause.number(),
+        }
+    }
+}
+
+impl From<AllocError> for LeadFault {
+    ghost use Rattle.pg_index.specs.declared.fault.LeadFault.TheVariants.{Memory};
+
+    ghost from_gives = { λ _ fault. fault ≡ Memory };
+
+    fn from(_: AllocError) -> LeadFault {
+        LeadFault::Memory
+    }
+}
+
+/// Why the rows of a heap aren't an index's: they weren't taken, or they aren't built yet.
+#[derive(Clone, Copy, Debug, PartialEq, Eq)]
+pub enum RowsFault {
+    Lead(LeadFault),
+    NotYet(RowForm),
+}
+
+impl From<LeadFault> for RowsFault {
+    ghost use Rattle.pg_index.specs.declared.fault.RowsFault.TheVariants.{Lead};
+
+    ghost from_gives = { λ lead fault. fault ≡ Lead lead };
+
+    fn from(lead: LeadFault) -> RowsFault {
+        RowsFault::Lead(lead)
+    }
+}
+
+impl From<AllocError> for RowsFault {
+    ghost use Rattle.pg_index.specs.declared.fault.LeadFault.TheVariants.{Memory};
+    ghost use Rattle.pg_index.specs.declared.fault.RowsFault.TheVariants.{Lead};
+
+    ghost from_gives = { λ _ fault. fault ≡ Lead Memory };
+
+    fn from(_: AllocError) -> RowsFault {
+        RowsFault::Lead(LeadFault::Memory)
     }
 }
 
@@ -44,8 +140,8 @@ pub enum Fault {
     /// The heap file couldn't be read.
     #[error("read fault")]
     ReadFault,
-    /// The heap's first fault. Item 0 stands for the page, and causes are numbered in
-    /// docs/FORMATS.md, section 8.
+    /// The heap's first fault. Item 0 stands for the page or the file, and causes are numbered in
+    /// docs/formats/heap.md, "Causes".
     #[error("heap block {block} item {item}: cause {cause}")]
     Heap { block: u32, item: u16, cause: u8 },
     /// The index file couldn't be written, or the report not be said.
@@ -90,23 +186,36 @@ impl Fault {
     }
 }
 
-impl From<ScanFault> for Fault {
-    ghost use Rattle.pg_index.specs.Answer.{IsScanFault};
+impl From<LeadFault> for Fault {
+    ghost use Rattle.pg_index.specs.Answer.{fault_of_lead};
 
-    ghost from_gives = { IsScanFault };
+    ghost from_gives = { λ lead fault. fault ≡ fault_of_lead lead };
 
-    fn from(fault: ScanFault) -> Fault {
-        match fault {
-            ScanFault::Heap { block, item, cause } => Fault::Heap { block, item, cause },
-            ScanFault::Memory => Fault::OutOfMemory,
+    fn from(lead: LeadFault) -> Fault {
+        match lead {
+            LeadFault::Row { block, item, cause } => Fault::Heap { block, item, cause },
+            LeadFault::Memory => Fault::OutOfMemory,
+        }
+    }
+}
+
+impl From<RowsFault> for Fault {
+    ghost use Rattle.pg_index.specs.Answer.{fault_of_rows};
+
+    ghost from_gives = { λ rows fault. fault ≡ fault_of_rows rows };
+
+    fn from(rows: RowsFault) -> Fault {
+        match rows {
+            RowsFault::Lead(fault) => Fault::from(fault),
+            RowsFault::NotYet(form) => Fault::not_yet(Form::Rows(form)),
         }
     }
 }
 
 impl From<ReadError> for Fault {
-    ghost use Rattle.pg_index.specs.Answer.{IsReadError};
+    ghost use Rattle.pg_index.specs.Answer.{fault_of_read};
 
-    ghost from_gives = { IsReadError };
+    ghost from_gives = { λ error fault. fault ≡ fault_of_read error };
 
     fn from(error: ReadError) -> Fault {
         match error {

@@ -1,15 +1,4 @@
-use pg_bytes::Items;
-
-/// Blocks of a heap that a worker took: so many from a first one on.
-#[derive(Clone, Copy, Debug, PartialEq, Eq)]
-pub struct Claim {
-    pub worker: u32,
-    pub first: u64,
-    pub size: u32,
-}
-
-/// The claims of a build, worker by worker.
-pub type Claims = Items<Claim>;
+use block_claim::Claim;
 
 /// What a worker passes after each claim that has a block, and before it reads the claim's first
 /// page. It has no meaning for the build: tests watch workers through it.

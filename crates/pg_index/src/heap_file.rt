@@ -1,17 +1,43 @@
-ghost use Rattle.std.specs.Prelude.{◌≡◌, ◌+◌, ◌<◌, ◌≤◌, length, IfOk, IsErrOf};
-ghost use Rattle.pg_files.specs.Faults.{most_faults};
-ghost use Rattle.pg_index.specs.HeapFile.{CountsReads, IsReadOf, OnToldFile, ReadsOn, most_bytes};
+ghost use Rattle.std.specs.Prelude.{◌≡◌, ◌+◌, ◌<◌, ◌≤◌, length, IfOk, IfErr, OnOk};
+ghost use Rattle.pg_files.specs.Outside.{OnlyReads};
+ghost use Rattle.pg_index.specs.HeapFile.{CountsHeapRead, HasFileFault, IsHeapOf, IsWhole, OnToldFile, ReadsOn, block_count, most_bytes, number_of_file_cause, page_of};
 ghost use Rattle.pg_index.specs.declared.heap_file.ReadError.TheVariants.{Failed, Memory};
 
-use pg_bytes::PAGE;
+use pg_bytes::{PAGE, Page, zero_bytes};
 use pg_files::Files;
 use std::alloc::{AllocError, Global};
 
 /// The most blocks that a heap may have: one segment of a table's file, 1 GiB.
-pub const MOST_BLOCKS: usize = 131_072;
+const MOST_BLOCKS: usize = 131_072;
 
 // How many bytes a read asks for.
 const BUFFER: usize = 65_536;
+
+/// What can be wrong with a heap file as a whole.
+#[derive(Clone, Copy, Debug, PartialEq, Eq)]
+pub enum FileCause {
+    NotWhole,
+    TooLong,
+}
+
+impl FileCause {
+    /// The number by which a fault tells its cause.
+    pub fn number(self) -> u8
+        ensures { result ≡ number_of_file_cause self }
+    {
+        match self {
+            FileCause::NotWhole => 14,
+            FileCause::TooLong => 15,
+        }
+    }
+}
+
+/// The fault of a heap file as a whole, and the block at which it is told.
+#[derive(Clone, Copy, Debug, PartialEq, Eq)]
+pub struct FileFault {
+    pub block: u32,
+    pub cause: FileCause,
+}
 
 /// Why a heap file wasn't read.
 #[derive(Clone, Copy, Debug, PartialEq, Eq)]
@@ -38,12 +64,10 @@ impl From<pg_files::Failed> for ReadError {
 
 /// Reads a heap file whole, or as far as it shows that it is longer than a heap may be.
 pub fn read_heap<F: Files>(alloc: Global, files: &mut F, name: &str) -> Result<Vec<u8>, ReadError>
-    ensures bytes { IfOk result (λ heap. OnToldFile (F.files files.old) name.now (IsReadOf heap.items)) }
-    ensures read_faults { CountsReads name.now result (F.read_faults files.old) (F.read_faults files.new) }
-    ensures files { F.files files.new ≡ F.files files.old }
-    ensures said { F.said files.new ≡ F.said files.old }
-    ensures write_faults { F.write_faults files.new ≡ F.write_faults files.old }
-    ensures say_faults { F.say_faults files.new ≡ F.say_faults files.old }
+    ensures bytes { IfOk result (λ heap.
+        OnToldFile (F.outside files.old).files name.now (IsHeapOf heap.items)) }
+    ensures faults { CountsHeapRead name.now result (F.outside files.old) (F.outside files.new) }
+    ensures only { OnlyReads (F.outside files.old) (F.outside files.new) }
 {
     let mut buffer = zero_bytes(alloc, BUFFER)?;
     let mut heap = Vec::new(alloc);
@@ -53,13 +77,6 @@ pub fn read_heap<F: Files>(alloc: Global, files: &mut F, name: &str) -> Result<V
         }
     }
     Ok(heap)
-}
-
-// So many zero bytes.
-fn zero_bytes(alloc: Global, count: usize) -> Result<Vec<u8>, AllocError>
-    ensures { IfOk result (λ bytes. length bytes.items ≡ count) }
-{
-    vec![in alloc; 0; count]
 }
 
 // Reads the file on from where the heap ends, through a buffer, and answers how many bytes came.
@@ -73,14 +90,46 @@ fn read_more<F: Files>(
     requires buffer { 0 < length buffer.old }
     ensures grown { IfOk result (λ count. length heap.new.items ≡ length heap.old.items + count) }
     ensures bytes { IfOk result (λ count.
-        OnToldFile (F.files files.old) name.now (ReadsOn heap.old.items count heap.new.items)) }
-    ensures read_faults { CountsReads name.now result (F.read_faults files.old) (F.read_faults files.new) }
-    ensures files { F.files files.new ≡ F.files files.old }
-    ensures said { F.said files.new ≡ F.said files.old }
-    ensures write_faults { F.write_faults files.new ≡ F.write_faults files.old }
-    ensures say_faults { F.say_faults files.new ≡ F.say_faults files.old }
+        OnToldFile (F.outside files.old).files name.now
+        (ReadsOn heap.old.items count heap.new.items)) }
+    ensures faults { CountsHeapRead name.now result (F.outside files.old) (F.outside files.new) }
+    ensures only { OnlyReads (F.outside files.old) (F.outside files.new) }
 {
     let count = files.read(name, heap.len() as u64, buffer)?;
     heap.extend_from_slice(&buffer[..count])?;
     Ok(count)
+}
+
+/// Whether a heap is of whole blocks and not too many: else its fault as a file. That it is too
+/// long comes before that its last block is cut, since only as much of it is read as shows it.
+pub fn check_whole(heap: &[u8]) -> Result<(), FileFault>
+    ensures refused { IfErr result (λ fault. HasFileFault heap.now fault.cause fault.block) }
+    ensures whole { OnOk result (IsWhole heap.now) }
+{
+    if heap.len() > MOST_BLOCKS * PAGE {
+        return Err(FileFault {
+            block: MOST_BLOCKS as u32,
+            cause: FileCause::TooLong,
+        });
+    }
+    if heap.len() % PAGE != 0 {
+        return Err(FileFault {
+            block: (heap.len() / PAGE) as u32,
+            cause: FileCause::NotWhole,
+        });
+    }
+    Ok(())
+}
+
+/// The page of a block.
+#[tactic(auto, unfolding(crate::specs::HeapFile::page_of))]
+pub fn page_at(heap: &[u8], block: u32) -> Page<'_>
+    requires { block < block_count heap.now }
+    ensures { result ≡ page_of heap.now block }
+{
+    let start = block as usize * PAGE;
+    match Page::of(&heap[start..start + PAGE]) {
+        Some(page) => page,
+        None => unreachable!(),
+    }
 }

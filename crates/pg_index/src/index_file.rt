@@ -1,6 +1,8 @@
 ghost use Rattle.std.specs.Prelude.{◌≡◌, ◌+◌, ◌<◌, ◌≤◌, length, IfOk, OnOk, OnErr};
-ghost use Rattle.pg_files.specs.Faults.{CountsFailureOf};
-ghost use Rattle.pg_index.specs.IndexFile.{Grows, Holds, HoldsFront, MayGrow};
+ghost use Rattle.pg_files.specs.Faults.{CountsWriteFailure};
+ghost use Rattle.pg_files.specs.Outside.{OnlyWrites};
+ghost use Rattle.pg_index.specs.Calls.Write.{Grows, MayGrow, page_end};
+ghost use Rattle.pg_index.specs.IndexFile.{Holds, HoldsFront};
 
 use pg_bytes::PAGE;
 use pg_files::{Failed, Files};
@@ -8,12 +10,13 @@ use pg_files::{Failed, Files};
 /// Makes a file of these bytes, page by page. After a failure the file is as before, or holds a
 /// front of them.
 pub fn write_file<F: Files>(files: &mut F, name: &str, bytes: &[u8]) -> Result<(), Failed>
-    ensures ok { OnOk result (Holds name.now bytes.now (F.files files.old) (F.files files.new)) }
-    ensures err { OnErr result (HoldsFront name.now bytes.now (F.files files.old) (F.files files.new)) }
-    ensures said { F.said files.new ≡ F.said files.old }
-    ensures read_faults { F.read_faults files.new ≡ F.read_faults files.old }
-    ensures write_faults { CountsFailureOf name.now result (F.write_faults files.old) (F.write_faults files.new) }
-    ensures say_faults { F.say_faults files.new ≡ F.say_faults files.old }
+    ensures ok { OnOk result
+        (Holds name.now bytes.now (F.outside files.old) (F.outside files.new)) }
+    ensures err { OnErr result
+        (HoldsFront name.now bytes.now (F.outside files.old) (F.outside files.new)) }
+    ensures faults { CountsWriteFailure name.now result
+        (F.outside files.old) (F.outside files.new) }
+    ensures only { OnlyWrites name.now (F.outside files.old) (F.outside files.new) }
 {
     files.create(name)?;
     let mut written = 0;
@@ -31,14 +34,15 @@ fn append_page<F: Files>(
     place: usize,
 ) -> Result<usize, Failed>
     requires { place < length bytes.now }
-    ensures some { IfOk result (λ count. (0 < count) × (place + count ≤ length bytes.now)) }
+    ensures some { IfOk result (λ count. 0 < count) }
+    ensures page { IfOk result (λ count. place + count ≤ page_end bytes.now place) }
     ensures ok { IfOk result (λ count.
-        Grows name.now bytes.now place count (F.files files.old) (F.files files.new)) }
-    ensures err { OnErr result (MayGrow name.now bytes.now place (F.files files.old) (F.files files.new)) }
-    ensures said { F.said files.new ≡ F.said files.old }
-    ensures read_faults { F.read_faults files.new ≡ F.read_faults files.old }
-    ensures write_faults { CountsFailureOf name.now result (F.write_faults files.old) (F.write_faults files.new) }
-    ensures say_faults { F.say_faults files.new ≡ F.say_faults files.old }
+        Grows name.now bytes.now place count (F.outside files.old) (F.outside files.new)) }
+    ensures err { OnErr result
+        (MayGrow name.now bytes.now place (F.outside files.old) (F.outside files.new)) }
+    ensures faults { CountsWriteFailure name.now result
+        (F.outside files.old) (F.outside files.new) }
+    ensures only { OnlyWrites name.now (F.outside files.old) (F.outside files.new) }
 {
     let end = bytes.len().min((place / PAGE + 1) * PAGE);
     files.append(name, &bytes[place..end])

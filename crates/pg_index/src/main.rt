@@ -3,15 +3,29 @@
 //! A run goes through five stages, each a file of this crate with a contract of its own. The words
 //! are read (`words`); the heap file is read whole (`heap_file`); its blocks are judged one by one
 //! and their rows taken (`scan`), or else the first fault is told; the rows are put in order
-//! (`row_order`, `index_rows`); and only when the image of the index stands in memory is the index
+//! (`row_order`, `index_rows`); and only when the index stands in memory (`built_index`) is the index
 //! file created, written page by page, and the report said (`deliver`, `index_file`).
 //!
 //! The invariant: until `deliver` nothing outside is changed, and from `deliver` on no memory is
-//! taken. What it promises stands on `run`, the top call: for each end, what the words and the heap
-//! file came to (`specs/Outcome.antt`), and what is outside afterwards (`specs/Run.antt`). The laws
-//! (`laws`) say that they come to one thing at most.
+//! taken.
+//!
+//! # What it promises
+//!
+//! All of it stands on `run`, the top call: what the words and the heap file come to
+//! (`specs/Outcome.antt`), what a run answers to that, and what is outside afterwards
+//! (`specs/Run.antt`). The laws (`laws`) say that they come to one thing at most.
+//!
+//! # What is not
+//!
+//! Whether memory is found. What a real file holds, which no clause can tell. Whether two names are
+//! two files: an index that is written under another name of the heap file replaces the heap.
 #![tactic(auto)]
 
+ghost use Rattle.std.specs.Prelude.{◌≡◌, ◌⊎◌, None, Some, OnErr, OnOk};
+ghost use Rattle.std.specs.Process.{exit_status};
+ghost use Rattle.pg_index.specs.Answer.{status_of, status_of_fault};
+
+mod built_index;
 mod command;
 mod deliver;
 mod ended;
@@ -21,19 +35,19 @@ mod heap_file;
 mod help;
 mod index_file;
 mod index_rows;
+mod int4_row;
 mod laws;
 mod row_order;
 mod scan;
 #[cfg(test)]
-mod test_pages;
-#[cfg(test)]
 mod tests;
 mod words;
 
+pub use block_claim::{Claim, Claims};
 pub use command::run;
 pub use ended::Ended;
 pub use fault::Fault;
-pub use gate::{Claim, Claims, Gate, NoGate};
+pub use gate::{Gate, NoGate};
 use help::{HELP, VERSION};
 pub use laws::{heap_rows_are_determined, order_is_determined, outcome_is_determined};
 use pg_files::RealFiles;
@@ -44,22 +58,18 @@ use std::{env, io};
 fn main(rt: HostRuntime) -> ExitCode {
     let words = match words_of(&rt) {
         Ok(words) => words,
-        Err(fault) => return fail(&rt, &fault),
+        Err(fault) => return exit(&rt, &Some(fault)),
     };
     if let [word] = words.as_slice() {
-        if word.as_str() == "--help" {
-            return show(&rt, HELP);
-        }
-        if word.as_str() == "--version" {
-            return show(&rt, VERSION);
+        match word.as_str() {
+            "--help" => return show(&rt, HELP),
+            "--version" => return show(&rt, VERSION),
+            _ => {}
         }
     }
     let mut files = RealFiles::new(&rt);
     let ended = run(&rt, rt.alloc(), &words, &mut files, &NoGate);
-    match &ended.fault {
-        None => ExitCode::SUCCESS,
-        Some(fault) => fail(&rt, fault),
-    }
+    exit(&rt, &ended.fault)
 }
 
 // The words of the command line without the program's name. Where one isn't text, the words are
@@ -73,16 +83,35 @@ fn words_of<R: Env + AllocGlobal>(rt: &R) -> Result<Vec<String>, Fault> {
     Ok(all.skip(1).collect(rt.alloc())?)
 }
 
-// Prints a text on standard output.
-fn show(rt: &(impl Print + Eprint), text: &str) -> ExitCode {
-    match print!(rt; "{text}") {
-        Ok(()) => ExitCode::SUCCESS,
-        Err(_) => fail(rt, &Fault::WriteFault),
+// Prints a text on standard output, and ends the program.
+fn show(rt: &(impl Print + Eprint), text: &str) -> ExitCode
+    ensures { (exit_status result ≡ status_of None)
+        ⊎ (exit_status result ≡ status_of_fault Fault.WriteFault) }
+{
+    exit(rt, &print_fault(print!(rt; "{text}")))
+}
+
+// The fault of what was printed.
+fn print_fault(printed: io::Result<()>) -> Option<Fault>
+    ensures ok { OnOk printed (result ≡ None) }
+    ensures err { OnErr printed (result ≡ Some Fault.WriteFault) }
+{
+    match printed {
+        Ok(()) => None,
+        Err(_) => Some(Fault::WriteFault),
     }
 }
 
-// Prints a fault on standard error, and gives its status. Nobody is left to tell where that fails.
-fn fail(rt: &impl Eprint, fault: &Fault) -> ExitCode {
-    let _ = eprintln!(rt; "{fault}");
-    ExitCode::from(fault.status())
+// Ends the program: a fault is told on standard error, and its status is the program's. Nobody is
+// left to tell where the telling fails.
+fn exit(rt: &impl Eprint, fault: &Option<Fault>) -> ExitCode
+    ensures { exit_status result ≡ status_of fault.now }
+{
+    match fault {
+        None => ExitCode::SUCCESS,
+        Some(fault) => {
+            let _ = eprintln!(rt; "{fault}");
+            ExitCode::from(fault.status())
+        }
+    }
 }

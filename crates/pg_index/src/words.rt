@@ -22,8 +22,10 @@ pub fn read_words(words: &[String]) -> Result<Build<'_>, u32>
     ensures grammar { IfOk result (λ build. IsInGrammar (texts_of words.now)) }
     ensures heap { IfOk result (λ build. build.heap.now ≡ word (texts_of words.now) 2) }
     ensures index { IfOk result (λ build. build.index.now ≡ word (texts_of words.now) 3) }
-    ensures table_statement { IfOk result (λ build. build.table_statement.now ≡ word (texts_of words.now) 4) }
-    ensures index_statement { IfOk result (λ build. build.index_statement.now ≡ word (texts_of words.now) 5) }
+    ensures table_statement { IfOk result (λ build.
+        build.table_statement.now ≡ word (texts_of words.now) 4) }
+    ensures index_statement { IfOk result (λ build.
+        build.index_statement.now ≡ word (texts_of words.now) 5) }
 {
     if let Some(fault) = faulty_name(words) {
         return Err(fault);
@@ -113,7 +115,9 @@ fn faulty_option(words: &[String]) -> Option<u32>
 // The first option is none.
 fn has_unknown_option(words: &[String]) -> bool
     ensures fault { IsTrue result → IsFaulty (texts_of words.now) 6 }
-    ensures none { IsTrue (not result) → 5 < length words.now → IsOption (word (texts_of words.now) 6) }
+    ensures none { IsTrue (not result)
+        → 5 < length words.now
+        → IsOption (word (texts_of words.now) 6) }
 {
     words.len() > 5 && text(words, 6) != NO_WORKERS
 }

@@ -1,6 +1,7 @@
 /// Writes a piece at a place of some bytes, as far as it fits.
 pub fn put(bytes: &mut [u8], at: usize, piece: &[u8]) {
-    for (place, byte) in bytes.iter_mut().skip(at).zip(piece) {
+    let at = at.min(bytes.len());
+    for (place, byte) in bytes[at..].iter_mut().zip(piece) {
         *place = *byte;
     }
 }

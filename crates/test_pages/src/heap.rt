@@ -1,17 +1,9 @@
 ghost use Rattle.std.specs.Prelude.{◌<◌};
 
 use crate::bytes::put;
+use crate::page::{LINE_POINTER, PAGE, PAGE_HEADER, put_header, put_line_pointer};
+use crate::rows::INT4_ROW;
 use std::alloc::{AllocError, Global};
-
-// The bytes of a page, of its header and of a line pointer.
-const PAGE: u16 = 8192;
-
-const PAGE_HEADER: u16 = 24;
-
-const LINE_POINTER: u16 = 4;
-
-// The page's size and layout version.
-const PAGE_VERSION: u16 = 0x2004;
 
 /// A heap tuple: its header's fields, its null bitmap from byte 23 on, and its attributes from
 /// `hoff` on.
@@ -30,18 +22,8 @@ pub struct Tuple<'a> {
 
 impl<'a> Tuple<'a> {
     /// A live row of one attribute that is no part of a chain.
-    pub const fn row(values: &'a [u8]) -> Tuple<'a> {
-        Tuple {
-            xmin: 700,
-            xmax: 0,
-            block: 0,
-            offset: 0,
-            infomask2: 1,
-            infomask: 0x0900,
-            hoff: 24,
-            bitmap: &[],
-            values,
-        }
+    pub fn row(values: &'a [u8]) -> Tuple<'a> {
+        Tuple { values, ..INT4_ROW }
     }
 
     // The tuple's length in bytes, without its alignment.
@@ -69,11 +51,21 @@ pub fn heap_page(alloc: Global, lines: &[Line]) -> Result<Vec<u8>, AllocError> {
         upper = put_line(&mut page, usize::from(lower), upper, line);
         lower = lower.saturating_add(LINE_POINTER);
     }
-    put(&mut page, 12, &lower.to_le_bytes());
-    put(&mut page, 14, &upper.to_le_bytes());
-    put(&mut page, 16, &PAGE.to_le_bytes());
-    put(&mut page, 18, &PAGE_VERSION.to_le_bytes());
+    put_header(&mut page, lower, upper, PAGE);
     Ok(page)
+}
+
+/// A heap page of live rows of one int4 each, with these values.
+pub fn int4_page(alloc: Global, values: &[i32]) -> Result<Vec<u8>, AllocError> {
+    let mut bytes = Vec::new(alloc);
+    for value in values {
+        bytes.push(value.to_le_bytes())?;
+    }
+    let mut lines = Vec::new(alloc);
+    for value in &bytes {
+        lines.push(Line::Normal(Tuple::row(value)))?;
+    }
+    heap_page(alloc, &lines)
 }
 
 /// A heap file of these pages, and then so many zero bytes more.
@@ -92,30 +84,20 @@ fn put_line(page: &mut [u8], at: usize, upper: u16, line: &Line) -> u16 {
     match line {
         Line::Unused => upper,
         Line::Redirect(target) => {
-            put_word(page, at, *target, 2, 0);
+            put_line_pointer(page, at, *target, 2, 0);
             upper
         }
         Line::Dead => {
-            put_word(page, at, 0, 3, 0);
+            put_line_pointer(page, at, 0, 3, 0);
             upper
         }
         Line::Normal(tuple) => {
             let place = upper.saturating_sub(tuple.length().saturating_add(7) / 8 * 8);
-            put_word(page, at, place, 1, tuple.length());
+            put_line_pointer(page, at, place, 1, tuple.length());
             put_tuple(page, usize::from(place), tuple);
             place
         }
     }
-}
-
-// Puts a line pointer's word: 15 bits of offset, 2 of state, 15 of length.
-fn put_word(page: &mut [u8], at: usize, offset: u16, state: u16, length: u16)
-    requires { state < 4 }
-{
-    let word = u32::from(offset % (1 << 15))
-        + u32::from(state) * (1 << 15)
-        + u32::from(length % (1 << 15)) * (1 << 17);
-    put(page, at, &word.to_le_bytes());
 }
 
 fn put_tuple(page: &mut [u8], at: usize, tuple: &Tuple)

@@ -4,6 +4,6 @@ use Rattle.pg_index.proofs.heap_file.read_more.Goals as goal
 
 pub returns-clause-bytes : goal.returns-clause-bytes
 returns-clause-bytes g c =
-    let read = read_on (g.F.Files.files c.args.files.now) c.args.name.now c.args.heap.now.items c.read.new.into c.in_ok-count.count (search rules) (search rules) (search rules) in
+    let read = read_on (g.F.Files.outside c.args.files.now) c.args.name.now c.args.heap.now.items c.read.new.into c.in_ok-count.count (search rules) (search rules) (search rules) in
     let grown : c.extend_from_slice.new.self.items ≡ c.args.heap.now.items ++ take c.in_ok-count.count c.read.new.into = search rules in
     rw grown read

@@ -1,5 +1,5 @@
 use Rattle.std.proofs.Common.{take}
-use Rattle.pg_index.specs.Scan.{AddsRows}
+use Rattle.pg_index.specs.Calls.Scan.{AddsRows}
 use Rattle.pg_index.proofs.scan.add_rows.Given as goal
 
 abbrev pub invariant-loop-i : goal.invariant-loop-i

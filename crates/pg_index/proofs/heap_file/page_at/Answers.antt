@@ -1,6 +1,6 @@
 use Rattle.std.proofs.Common.{◌≡◌, ℕ, ◌+◌, ◌-◌, ◌*◌, ap, ◌∙◌, arith, take, drop}
-use Rattle.pg_index.specs.HeapRows.{page_of}
-use Rattle.pg_index.proofs.scan.page_at.Goals as goal
+use Rattle.pg_index.specs.HeapFile.{page_of}
+use Rattle.pg_index.proofs.heap_file.page_at.Goals as goal
 
 pub returns : goal.returns
 unfolding page_of
