@@ -1,0 +1,19 @@
+ghost use Rattle.block_claim.specs.Laws.{EachBlockIsClaimedOnce, LegalClaimsAreARun, LegalClaimsAreFew};
+
+/// Every block of a scan with a seat lies in exactly one claim of a legal list. A law of the
+/// definitions: the call does nothing.
+pub fn each_block_is_claimed_once()
+    ensures { EachBlockIsClaimedOnce }
+{}
+
+/// Legal claims in the order of their first numbers are a run of the machine: one event after
+/// another makes them. A law of the definitions: the call does nothing.
+pub fn legal_claims_are_a_run()
+    ensures { LegalClaimsAreARun }
+{}
+
+/// A legal list has at most as many claims as there are blocks and seats together. A law of the
+/// definitions: the call does nothing.
+pub fn legal_claims_are_few()
+    ensures { LegalClaimsAreFew }
+{}
