@@ -9,9 +9,9 @@ writes a heap of N pages of a kind to FILE:
     live      226 rows on each page, with ascending keys from 0 on over the whole heap, or with the given keys
     chains    38 HOT chains on each page: a redirect and the five dead heap-only tuples that it leads to
     hostile   1,300 redirects on each page to the head of one chain of 100 dead heap-only tuples
-    sample    the page of docs/FORMATS.md's worked example: rows 30, 10, 20
+    sample    the page of docs/formats/heap.md, "A worked heap": rows 30, 10, 20
 
-The layouts are those of docs/FORMATS.md. The block of a ctid is 0 on each page but those of `live`.
+The layouts are those of docs/formats. The block of a ctid is 0 on each page but those of `live`.
 """
 
 import argparse

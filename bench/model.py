@@ -1,5 +1,5 @@
 #!/usr/bin/env python3
-"""What a build has to answer to a heap file, read from docs/FORMATS.md and from nothing else of this repository.
+"""What a build has to answer to a heap file, read from docs/formats and from nothing else of this repository.
 
     bench/model.py HEAP [INDEX]
 
