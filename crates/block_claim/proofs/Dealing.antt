@@ -1,5 +1,7 @@
 -- The seats of a scan, dealt out one number after another.
 use Rattle.std.proofs.Common.{◌≡◌, ℕ, zero, suc, ◌+◌, ◌-◌, ◌*◌, ◌^◌, ◌<◌, ◌≤◌, List, [], ◌∷◌, ◌++◌, length, get_or, sym, refl, ap, subst, ◌∙◌, length-append, arith}
+use Rattle.std.proofs.lemmas.Option.{get_or_from_slice_get, slice_get_within}
+use Rattle.std.specs.Prelude.{slice_get, Some}
 use Rattle.std.specs.List.{range_with_len}
 use Rattle.block_claim.specs.declared.view.View.{View}
 use Rattle.block_claim.specs.Views.{first_worker, other_workers, left_over, handed_out, seat_share, whole_share, unreported, IsFreshView}
@@ -91,10 +93,16 @@ module _ (scan : ScanState) (worker : ℕ) where
     share = (let s = dealt.share in omega (arith, sum_snoc (λ (x : SeatState). x.view.share) seats seat));
   })
 
+  -- what holds of each place holds of each seat that is read there
+  each_read : (seats : List SeatState) → ((i : ℕ) (d : SeatState) → i < length seats → IsFresh scan i (get_or seats i d))
+      → (i : ℕ) (seat : SeatState) → slice_get seats i ≡ Some seat → IsFresh scan i seat
+  each_read seats each i seat is =
+      subst (λ (s : SeatState). IsFresh scan i s) (get_or_from_slice_get seats i seat seat is) (each i seat (slice_get_within seats i seat is))
+
   pub dealt_all : (seats more : List SeatState) (seat : SeatState) → more ≡ seats ++ seat ∷ [] → AreDealt scan worker seats → IsFresh scan worker seat → worker + 1 ≡ scan.seats → scan.seats ≤ 32
       → seat.view.share ≡ whole_share - worker * seat_share → AreOpened scan more
   dealt_all seats more seat is dealt fresh last few share = subst (λ (xs : List SeatState). AreOpened scan xs) (sym is) (record {
     count = (let c = dealt.count in omega (arith, length-append seats (seat ∷ [])));
-    each = each_snoc seats seat dealt.count dealt.each fresh;
+    each = each_read (seats ++ seat ∷ []) (each_snoc seats seat dealt.count dealt.each fresh);
     share = (let s = dealt.share in omega (arith, sum_snoc (λ (x : SeatState). x.view.share) seats seat));
   })

@@ -1,5 +1,5 @@
 -- What the calls are told and leave: a scan, and a seat of it.
-use Rattle.std.specs.Prelude.{◌≡◌, ℕ, ◌<◌, ◌≤◌, Bool, true, ltb, if◌then◌else◌, Option, Some, None, List, [], ◌∷◌, length, get_or}
+use Rattle.std.specs.Prelude.{◌≡◌, ℕ, ◌<◌, ◌≤◌, Bool, true, ltb, if◌then◌else◌, Option, Some, None, List, [], ◌∷◌, length, slice_get}
 use Rattle.std.specs.List.{sum_by}
 use Rattle.atomic_table.specs.Seated.{TableId}
 use Rattle.block_claim.specs.declared.claim.Claim.{Claim}
@@ -75,5 +75,5 @@ pub record IsFresh (scan : ScanState) (worker : ℕ) (seat : SeatState) : Type 0
 -- the seats of a scan in the order of their numbers, with the whole share among them
 pub record AreOpened (scan : ScanState) (seats : List SeatState) : Type 0 where
   pub count : length seats ≡ scan.seats
-  pub each : (i : ℕ) (d : SeatState) → i < length seats → IsFresh scan i (get_or seats i d)
+  pub each : (worker : ℕ) (seat : SeatState) → slice_get seats worker ≡ Some seat → IsFresh scan worker seat
   pub share : sum_by (λ seat. seat.view.share) seats ≡ whole_share

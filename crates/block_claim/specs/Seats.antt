@@ -33,8 +33,8 @@ pub record FieldsFit (me : Me (Unit {0}) View) (worker chunk last : ℕ) (done :
   pub seen_is : seen ≡ me.0.seen
   pub view_is : IsViewOf worker done me.0
 
-abbrev pub state_of : Inside → SeatState
-state_of s = record { table = s.token.table_id; worker = s.worker; view = s.token.me.0 }
+abbrev pub seat_state : Inside → SeatState
+seat_state s = record { table = s.token.table_id; worker = s.worker; view = s.token.me.0 }
 
 abbrev pub IsSoundSeat : Inside → Type 0
 IsSoundSeat s = FieldsFit s.token.me s.worker s.chunk s.last s.done s.seen s.claims.items (vec_capacity s.claims)

@@ -26,7 +26,8 @@ pub(crate) fn chunk_at_start(blocks: u32) -> u32
 /// The chunk of a worker's next claim, by its chunk and the last number that it had.
 #[tactic(auto, unfolding(crate::specs::Ramp::next_chunk))]
 pub(crate) fn next_chunk(blocks: u32, chunk: u32, last: u64) -> u32
-    ensures { result ≡ ramp.next_chunk blocks (record { chunk = chunk; last = last; done = false }) }
+    ensures { result
+        ≡ ramp.next_chunk blocks (record { chunk = chunk; last = last; done = false }) }
 {
     let ramp_down = u64::from(blocks).saturating_sub(LAST_CHUNKS * u64::from(chunk));
     if chunk > 1 && last > ramp_down {

@@ -30,9 +30,9 @@ impl Model for ScanSeat {
 
     ghost Value = { SeatState };
 
-    ghost use Rattle.block_claim.specs.Seats.{state_of, IsSoundSeat};
+    ghost use Rattle.block_claim.specs.Seats.{seat_state, IsSoundSeat};
 
-    ghost view = { state_of };
+    ghost view = { seat_state };
 
     ghost invariant = { IsSoundSeat };
 }

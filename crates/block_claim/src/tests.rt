@@ -68,7 +68,8 @@ fn join_all(scan: &Scan, mut into: ScanSeat, seats: Vec<ScanSeat>) -> ScanSeat
     requires seats { All (λ seat. IsSeatOf scan.now seat × (is_done seat ≡ true)) seats.items }
     ensures seat { IsSeatOf scan.now result }
     ensures done { is_done result ≡ true }
-    ensures share { result.view.share ≡ into.view.share + sum_by (λ seat. seat.view.share) seats.items }
+    ensures share { result.view.share
+        ≡ into.view.share + sum_by (λ seat. seat.view.share) seats.items }
 {
     for seat in seats {
         scan.join(&mut into, seat);
@@ -77,8 +78,7 @@ fn join_all(scan: &Scan, mut into: ScanSeat, seats: Vec<ScanSeat>) -> ScanSeat
 }
 
 fn report_block(scan: &Scan, seat: &mut ScanSeat, block: u32)
-    requires scan { IsSeatOf scan.now seat.old }
-    requires block { block < scan.now.blocks }
+    requires { IsSeatOf scan.now seat.old }
     ensures same { IsSeatOf scan.now seat.new }
 {
     scan.report(seat, block);
@@ -109,7 +109,8 @@ fn finish(rt: &impl Abort, scan: Scan, mut seats: Vec<ScanSeat>) -> Claims
 fn claim_in_threads<R: Threads + Sync>(rt: &R, scan: &Scan, seats: &mut [ScanSeat])
     requires { All (λ seat. IsSeatOf scan.now seat) seats.old }
     ensures done { All (λ seat. IsSeatOf scan.now seat × (is_done seat ≡ true)) seats.new }
-    ensures share { sum_by (λ seat. seat.view.share) seats.new ≡ sum_by (λ seat. seat.view.share) seats.old }
+    ensures share { sum_by (λ seat. seat.view.share) seats.new
+        ≡ sum_by (λ seat. seat.view.share) seats.old }
 {
     thread::for_each_mut(rt, seats, 32, &|_, seat| claim_to_end(scan, seat));
 }
@@ -128,8 +129,8 @@ fn scanned<R: Threads + Abort + Sync>(
     Ok(finish(rt, scan, seats))
 }
 
-// Whether claims are those of a whole scan, by a table of the numbers and a walk of each ramp, which
-// begins with the chunk given.
+// Whether claims are those of a whole scan, by a table of the numbers and a walk of each ramp,
+// which begins with the chunk given.
 fn is_legal(
     alloc: Global,
     blocks: u32,

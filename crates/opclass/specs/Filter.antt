@@ -39,9 +39,9 @@ value_of (first ∷ columns) (value ∷ values) column =
     if first == column then Some value else value_of columns values column
 
 -- a condition is true
-abbrev pub Holds : List ℕ → List KeyVal → Cond → Type 0
-Holds columns values cond = option_and_then (verdict cond.test) (value_of columns values cond.column) ≡ Some true
+abbrev pub CondHolds : List ℕ → List KeyVal → Cond → Type 0
+CondHolds columns values cond = option_and_then (verdict cond.test) (value_of columns values cond.column) ≡ Some true
 
 -- every condition of a filter is true
-abbrev pub IsKept : List Cond → List ℕ → List KeyVal → Type 0
-IsKept filter columns values = All (Holds columns values) filter
+abbrev pub PassesFilter : List Cond → List ℕ → List KeyVal → Type 0
+PassesFilter filter columns values = All (CondHolds columns values) filter

@@ -1,6 +1,6 @@
 ghost use Rattle.std.specs.Prelude.{◌≡◌, ◌↔◌, IsTrue, All, Some, option_and_then};
 ghost use Rattle.std.specs.Option.{option_copied};
-ghost use Rattle.opclass.specs.Filter.{is_met, verdict, value_of, Holds, IsKept};
+ghost use Rattle.opclass.specs.Filter.{is_met, verdict, value_of, CondHolds, PassesFilter};
 
 use crate::key_list::KeyList;
 use crate::table::Columns;
@@ -42,7 +42,7 @@ pub type Filter = Items<Cond>;
 /// and a comparison with null is unknown, which isn't true. Nothing is true of a column that has
 /// no value here.
 pub fn keeps(filter: &Filter, columns: &Columns, values: &KeyList) -> bool
-    ensures { IsTrue result ↔ IsKept filter.now columns.now values.now }
+    ensures { IsTrue result ↔ PassesFilter filter.now columns.now values.now }
 {
     filter
         .as_slice()
@@ -52,7 +52,7 @@ pub fn keeps(filter: &Filter, columns: &Columns, values: &KeyList) -> bool
 
 // Whether a condition is true.
 fn holds(cond: &Cond, columns: &[u16], values: &[KeyVal]) -> bool
-    ensures { IsTrue result ↔ Holds columns.now values.now cond.now }
+    ensures { IsTrue result ↔ CondHolds columns.now values.now cond.now }
 {
     match value_of(columns, values, cond.column) {
         Some(value) => test_of(&cond.test, value) == Some(true),

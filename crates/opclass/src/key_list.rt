@@ -1,4 +1,4 @@
-ghost use Rattle.std.specs.Prelude.{◌≡◌, [], ◌∷◌, ◌++◌, ◌<◌, length, get_or, IfOk, IfErr, MatchOption, OnOk, OnErr};
+ghost use Rattle.std.specs.Prelude.{◌≡◌, [], ◌∷◌, ◌++◌, ◌<◌, length, slice_get, Some, IfOk, IfErr, MatchOption, OnOk, OnErr};
 
 use crate::value::{Elem, ElemList, KeyVal};
 use pg_bytes::{Bytes, Items};
@@ -73,7 +73,7 @@ impl KeyList {
     /// The value at a place, counted from 0.
     pub fn get(&self, at: usize) -> &KeyVal
         requires { at < length self.now }
-        ensures { result.now ≡ get_or self.now at result.now }
+        ensures { slice_get self.now at ≡ Some result.now }
     {
         self.values.get(at)
     }

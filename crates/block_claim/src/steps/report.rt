@@ -1,4 +1,3 @@
-ghost use Rattle.std.specs.Prelude.{◌≡◌, ◌≤◌, ◌<◌};
 ghost use Rattle.block_claim.specs.Calls.{IsSeatOf, MakesReport, ClaimsAreLegal, NoReportIsMissed};
 ghost use Rattle.block_claim.specs.Steps.{Reports};
 
@@ -14,12 +13,11 @@ impl Play<(), View> for Reporting {
 }
 
 impl Scan {
-    /// Reports a block to all seats, by one atomic step that leaves the lesser of it and of what was
-    /// reported before. The seat keeps the block among its reports, and the lesser as what it has
+    /// Reports a block to all seats, by one atomic step that leaves the lesser of it and of what
+    /// was reported before. The seat keeps the block among its reports, and the lesser as what it has
     /// seen, which is no more than what it had seen.
     pub fn report(&self, seat: &mut ScanSeat, block: u32)
-        requires scan { IsSeatOf self.now seat.old }
-        requires block { block < self.now.blocks }
+        requires { IsSeatOf self.now seat.old }
         ensures noted { MakesReport seat.old block seat.new }
         ensures legal { ClaimsAreLegal seat.new }
         ensures seen { NoReportIsMissed seat.new }

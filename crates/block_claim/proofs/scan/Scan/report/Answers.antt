@@ -6,7 +6,7 @@ use Rattle.block_claim.proofs.Fits.{noted_fits}
 use Rattle.block_claim.proofs.scan.Scan.report.Goals as goal
 
 pub fetch_min-floor-requires : goal.fetch_min-floor-requires
-fetch_min-floor-requires c = (search rules, omega (arith, c.self.invariant.words), reports_as c.self.inside.table.shared.key _ _ c.from-block.result c.seat.inside.token.me c.seat.invariant.no_slot c.seat.invariant.view_is.share (omega arith))
+fetch_min-floor-requires c = (search rules, omega (arith, c.self.invariant.words), reports_as c.self.inside.table.shared.key _ _ c.from-block.result c.seat.inside.token.me c.seat.invariant.no_slot c.seat.invariant.view_is.share (search rules))
 
 pub invariant_of-seat : goal.invariant_of-seat
 invariant_of-seat c =
