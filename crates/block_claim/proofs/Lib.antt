@@ -1,3 +1,4 @@
+-- No lemma of this crate is cited by another.
 pub mod Lists
 pub mod Counts
 pub mod Ramps

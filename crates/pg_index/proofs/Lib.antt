@@ -1,3 +1,4 @@
+-- No lemma of this crate is cited by another: nothing stands on it.
 pub mod Faultless
 pub mod ReadOn
 pub mod Growing

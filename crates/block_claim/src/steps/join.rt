@@ -24,8 +24,8 @@ impl Play<(), View> for Joining {
 
 impl Scan {
     /// Puts the claims of a seat behind those of another, with its share, its reports and the
-    /// lesser of what the two have seen. The seat that takes them stays what it was: its number and its
-    /// place on the ramp are as before.
+    /// lesser of what the two have seen. The seat that takes them stays what it was: its number and
+    /// its place on the ramp are as before.
     pub fn join(&self, into: &mut ScanSeat, from: ScanSeat)
         requires into { IsSeatOf self.now into.old }
         requires from { IsSeatOf self.now from }

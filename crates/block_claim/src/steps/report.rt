@@ -14,8 +14,8 @@ impl Play<(), View> for Reporting {
 
 impl Scan {
     /// Reports a block to all seats, by one atomic step that leaves the lesser of it and of what
-    /// was reported before. The seat keeps the block among its reports, and the lesser as what it has
-    /// seen, which is no more than what it had seen.
+    /// was reported before. The seat keeps the block among its reports, and the lesser as what it
+    /// has seen, which is no more than what it had seen.
     pub fn report(&self, seat: &mut ScanSeat, block: u32)
         requires { IsSeatOf self.now seat.old }
         ensures noted { MakesReport seat.old block seat.new }
