@@ -4,6 +4,8 @@ pub mod KeyOrder
 pub mod NeededColumns
 -- bytes that show their end, and pieces
 pub mod Pieces
+-- what stays in front of bytes; crates above cite it
+pub mod InFront
 -- normalised keys; crates above cite `norms_show_end` and `norms_apart`
 pub mod Norms
 -- how bytes are turned, escaped and read

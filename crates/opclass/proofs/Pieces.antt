@@ -130,7 +130,7 @@ nat_cmp-add : (k r s : ℕ) → nat_cmp (k + r) (k + s) ≡ nat_cmp r s
 nat_cmp-add k r s = grind (arith, nat_tests)
 
 -- two numbers of two digits to the base m
-nat_cmp-digits : (m a b r s : ℕ) → r < m → s < m → nat_cmp (a * m + r) (b * m + s) ≡ ordering_then (nat_cmp a b) (nat_cmp r s)
+pub nat_cmp-digits : (m a b r s : ℕ) → r < m → s < m → nat_cmp (a * m + r) (b * m + s) ≡ ordering_then (nat_cmp a b) (nat_cmp r s)
 nat_cmp-digits m a b r s p q =
     by_ranked (a < b) (a ≡ b) (b < a) (nat_cmp a b) (ranked a b (nat_cmp a b) refl)
     (λ e less.

@@ -1,9 +1,13 @@
 -- What the passes over the bytes of normalised keys keep.
-use Rattle.std.specs.Prelude.{◌≡◌, ◌≢◌, ℕ, ◌<◌, ◌-◌, ◌==◌, if◌then◌else◌, List, [], ◌∷◌, ◌++◌, length, slice_index, All, ℤ}
+use Rattle.std.specs.Prelude.{◌≡◌, ◌≢◌, ℕ, ◌<◌, ◌-◌, ◌==◌, if◌then◌else◌, List, [], ◌∷◌, ◌++◌, length, take, slice_index, All, ℤ}
 use Rattle.std.specs.Int.{bytes_high_first}
 use Rattle.opclass.specs.declared.value.KeyVal.{KeyVal}
 use Rattle.opclass.specs.declared.spec.SortPart.{SortPart}
 use Rattle.opclass.specs.Norm.{lifted, escaped, directed_bytes, piece, IsKeyValue}
+
+-- bytes stand in front of others
+abbrev pub IsInFront : List ℕ → List ℕ → Type 0
+IsInFront front bytes = take (length front) bytes ≡ front
 
 -- the bytes before the first one of a value went behind those of a buffer, and these are left
 pub record PutsClear (value : ℕ) (old new bytes left : List ℕ) : Type 0 where

@@ -57,7 +57,7 @@ pub use laws::{
     rows_are_ordered, rows_are_told_apart,
 };
 pub use needs::needed;
-pub use norm::norm_key;
+pub use norm::{norm_key, put_norm, put_piece};
 pub use order::{clash, cmp_elem, cmp_key, cmp_row};
 pub use reader::{read_norm, read_piece};
 pub use spec::{IndexSpec, KeyCol, KeyColList, SortPart, SortSpec};

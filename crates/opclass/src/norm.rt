@@ -1,7 +1,7 @@
-ghost use Rattle.std.specs.Prelude.{◌≡◌, ◌++◌, ◌∷◌, All, IfOk, OnOk, length, take, slice_index, ◌≤◌, ◌<◌, ◌≢◌};
+ghost use Rattle.std.specs.Prelude.{◌≡◌, ◌++◌, ◌∷◌, All, IfOk, OnErr, OnOk, length, take, slice_index, ◌≤◌, ◌<◌, ◌≢◌};
 ghost use Rattle.std.specs.Int.{bytes_high_first};
 ghost use Rattle.opclass.specs.Norm.{directed_bytes, escaped, lifted, norm_of, null_byte, piece, turned};
-ghost use Rattle.opclass.specs.Pass.{PutsClear};
+ghost use Rattle.opclass.specs.Pass.{IsInFront, PutsClear};
 
 use crate::key_list::KeyList;
 use crate::spec::{SortPart, SortSpec};
@@ -33,8 +33,17 @@ pub fn norm_key(alloc: Global, spec: &SortSpec, keys: &KeyList) -> Result<Bytes,
     ensures { IfOk result (λ bytes. bytes ≡ norm_of spec.now keys.now) }
 {
     let mut out = Vec::with_capacity(alloc, keys.len().saturating_mul(ROOM))?;
-    put_pieces(&mut out, spec.as_slice(), keys.as_slice())?;
+    put_norm(&mut out, spec, keys)?;
     Ok(Items::from_vec(out))
+}
+
+/// Puts the normalised key of these values behind the bytes that a buffer has. On want of memory
+/// the buffer's bytes stay in front, and part of the key may stand behind them.
+pub fn put_norm(out: &mut Vec<u8>, spec: &SortSpec, keys: &KeyList) -> Result<(), AllocError>
+    ensures ok { OnOk result (out.new.items ≡ out.old.items ++ norm_of spec.now keys.now) }
+    ensures err { OnErr result (IsInFront out.old.items out.new.items) }
+{
+    put_pieces(out, spec.as_slice(), keys.as_slice())
 }
 
 // Puts the pieces behind the bytes that a buffer has.
@@ -43,8 +52,9 @@ fn put_pieces(
     mut parts: &[SortPart],
     mut values: &[KeyVal],
 ) -> Result<(), AllocError>
-    ensures { OnOk result
+    ensures ok { OnOk result
         (out.new.items ≡ out.old.items ++ norm_of parts.entry.now values.entry.now) }
+    ensures err { OnErr result (IsInFront out.old.items out.new.items) }
 {
     while let [part, more @ ..] = parts {
         let [value, others @ ..] = values else {
@@ -57,8 +67,11 @@ fn put_pieces(
     Ok(())
 }
 
-fn put_piece(out: &mut Vec<u8>, part: SortPart, value: &KeyVal) -> Result<(), AllocError>
-    ensures { OnOk result (out.new.items ≡ out.old.items ++ piece part value.now) }
+/// Puts the piece of one value of a column behind the bytes that a buffer has. On want of memory
+/// the buffer's bytes stay in front, and part of the piece may stand behind them.
+pub fn put_piece(out: &mut Vec<u8>, part: SortPart, value: &KeyVal) -> Result<(), AllocError>
+    ensures ok { OnOk result (out.new.items ≡ out.old.items ++ piece part value.now) }
+    ensures err { OnErr result (IsInFront out.old.items out.new.items) }
 {
     match value {
         KeyVal::Nil => out.push(null_byte(part))?,
@@ -87,9 +100,10 @@ pub(crate) fn null_byte(part: SortPart) -> u8
 }
 
 fn put_number(out: &mut Vec<u8>, part: SortPart, number: i64) -> Result<(), AllocError>
-    ensures { OnOk result
+    ensures ok { OnOk result
         (out.new.items
         ≡ out.old.items ++ directed_bytes part (bytes_high_first 8 (lifted number))) }
+    ensures err { OnErr result (IsInFront out.old.items out.new.items) }
 {
     let mut bytes = lift(number).to_be_bytes();
     direct(part, &mut bytes);
@@ -104,8 +118,9 @@ fn lift(number: i64) -> u64
 }
 
 fn put_bytes(out: &mut Vec<u8>, part: SortPart, bytes: &[u8]) -> Result<(), AllocError>
-    ensures { OnOk result
+    ensures ok { OnOk result
         (out.new.items ≡ out.old.items ++ directed_bytes part (escaped bytes.now)) }
+    ensures err { OnErr result (IsInFront out.old.items out.new.items) }
 {
     let start = out.len();
     put_escaped(out, bytes)?;
@@ -115,7 +130,8 @@ fn put_bytes(out: &mut Vec<u8>, part: SortPart, bytes: &[u8]) -> Result<(), Allo
 
 // Puts the bytes with their end, as slices between the zeros.
 fn put_escaped(out: &mut Vec<u8>, bytes: &[u8]) -> Result<(), AllocError>
-    ensures { OnOk result (out.new.items ≡ out.old.items ++ escaped bytes.now) }
+    ensures ok { OnOk result (out.new.items ≡ out.old.items ++ escaped bytes.now) }
+    ensures err { OnErr result (IsInFront out.old.items out.new.items) }
 {
     let mut left = put_clear(out, bytes, 0)?;
     while let [_, behind @ ..] = left {
@@ -131,8 +147,9 @@ pub(crate) fn put_clear<'a>(
     bytes: &'a [u8],
     value: u8,
 ) -> Result<&'a [u8], AllocError>
-    ensures { IfOk result (λ left.
+    ensures ok { IfOk result (λ left.
         PutsClear value out.old.items out.new.items bytes.entry.now left.now) }
+    ensures err { OnErr result (IsInFront out.old.items out.new.items) }
 {
     let clear = clear_len(bytes, value);
     out.extend_from_slice(&bytes[..clear])?;

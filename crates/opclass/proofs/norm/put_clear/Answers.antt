@@ -4,8 +4,8 @@ use Rattle.opclass.specs.Pass.{PutsClear}
 use Rattle.opclass.proofs.Bytes.{puts_clear}
 use Rattle.opclass.proofs.norm.put_clear.Goals as goal
 
-pub returns : goal.returns
-returns c =
+pub returns-clause-ok : goal.returns-clause-ok
+returns-clause-ok c =
     let bytes : List ℕ = c.args.bytes.now in
     let n : ℕ = c.clear_len-clear.result in
     let new : List ℕ = c.extend_from_slice.new.self.items in
