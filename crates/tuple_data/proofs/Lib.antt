@@ -1,0 +1,11 @@
+-- what the table of types has for each type
+pub mod Facts
+-- what a value takes
+pub mod Pieces
+-- the data of several columns
+pub mod Columns
+-- the most bytes that values take; btree_item cites `few_data`
+pub mod Room
+pub mod NullBits
+-- what the pass that puts the data keeps
+pub mod PutPass

@@ -1,0 +1,20 @@
+//! What holds of the data of tuples, whatever the values are.
+
+ghost use Rattle.tuple_data.specs.Laws.{ColumnsBehindFollow, DataTakeTheirRoom, FrontColumnsHaveTheFront};
+
+/// The data of columns and of those behind them are the data of them all.
+pub fn columns_behind_follow()
+    ensures { ColumnsBehindFollow }
+{}
+
+/// The columns in front have the data in front, so a tuple that keeps some of the columns is the
+/// whole one cut off.
+pub fn front_columns_have_the_front()
+    ensures { FrontColumnsHaveTheFront }
+{}
+
+/// The data take at most 15 bytes for each number, and for other bytes their own and 11 more. So
+/// who knows the lengths of the values knows that the data's size has its limits.
+pub fn data_take_their_room()
+    ensures { DataTakeTheirRoom }
+{}
