@@ -1,0 +1,16 @@
+use Rattle.std.proofs.Common.{arith, refl}
+use Rattle.shared_tape.proofs.Standing.{has_two, first_ends}
+use Rattle.shared_tape.proofs.StepsBack.{order_bytes_at, pieces_at}
+use Rattle.shared_tape.proofs.reader.read_record.Goals as goal
+
+pub overflow_add-place : goal.overflow_add-place
+overflow_add-place c = omega (arith, first_ends c.args.bytes.now _ c.args.place (has_two _ _ _ _ c.requires) refl)
+
+pub overflow_add-place-2 : goal.overflow_add-place-2
+overflow_add-place-2 c = omega (arith, first_ends _ _ _ (has_two _ _ _ _ c.requires) c.counted_at-sorted.ensures)
+
+pub read_sorted-requires : goal.read_sorted-requires
+read_sorted-requires c = order_bytes_at _ _ _ _ _ c.requires c.counted_at-sorted.ensures
+
+pub read_extra-requires : goal.read_extra-requires
+read_extra-requires c = pieces_at _ _ _ _ _ _ c.requires c.counted_at-sorted.ensures c.counted_at-extra.ensures
