@@ -1,0 +1,2 @@
+-- what is spooled, as records are put and runs begin and end
+pub mod Spooling

@@ -1,0 +1,2 @@
+-- a spool as contracts see it, and what it gives
+pub mod Spools

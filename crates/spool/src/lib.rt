@@ -1,0 +1,32 @@
+//! A spool: rows are put in any order, and come back as a tape of bounded sorted runs.
+//!
+//! A worker that scans its blocks of the heap can't sort all rows at once where they are many. So
+//! it sorts them in runs, as `dumptuples` of `tuplesort.c` writes the tuples that memory takes as a
+//! sorted run to a tape and begins again. There the bound is `work_mem`; here it is a number of
+//! rows, so that which rows a run has doesn't depend on how much memory a row takes.
+//!
+//! How it is done: one run is open, and each row's bytes are written into it at once. Where it is
+//! full, the next row begins another; only once that row has its place is the full run sorted and
+//! put behind the others. So each step that may find no memory comes before the one that can't be
+//! taken back.
+//!
+//! The invariant: every run but the open one is sorted, in the spool's order, and none is longer
+//! than it may be.
+//!
+//! # What it promises
+//!
+//! - The tape has the records that were put, as often as they were put, in sorted runs of the
+//!   spool's order and of at most as many rows as it was told.
+//! - A row that finds no memory is handed back, and the spool is as it was.
+//!
+//! # What is not
+//!
+//! - Which row is in which run, and that the runs but the last are full, isn't said.
+//! - That there is enough memory is tested and not proved.
+#![tactic(auto)]
+
+mod spool;
+#[cfg(test)]
+mod tests;
+
+pub use spool::Spool;
