@@ -1,0 +1,102 @@
+ghost use Rattle.std.specs.Prelude.{◌≡◌, ◌+◌, ◌<◌, ◌≤◌, ◌++◌, IfOk, OnOk, length};
+ghost use Rattle.std.specs.List.{flat_map};
+ghost use Rattle.std.specs.List.Sorted.{IsSorted};
+ghost use Rattle.opclass.specs.Order.{bytes_cmp};
+ghost use Rattle.run_merge.specs.Cutting.{AreAtShares, AreCuts, all_samples, cut_at, samples_of};
+ghost use Rattle.run_merge.specs.Pass.{bytes_of};
+ghost use Rattle.run_merge.specs.Sorted.{AllHaveOrder};
+
+use crate::cuts::Cuts;
+use opclass::SortSpec;
+use pg_bytes::{Bytes, Items};
+use shared_tape::{Run, Tape, Tapes};
+use std::alloc::{AllocError, Global};
+
+/// Of how many records of a run one is a sample.
+const STRIDE: usize = 64;
+
+/// Cuts the order into so many parts, at equal shares of the samples: of every run the records at
+/// the places 0, 64, 128 and so on. Without samples every cut is the empty list. How many records a
+/// part then has isn't promised. An error means that no memory was left.
+pub fn cut_points(
+    alloc: Global,
+    tapes: &Tapes,
+    parts: u32,
+    order: &SortSpec,
+) -> Result<Cuts, AllocError>
+    requires some { 1 ≤ parts }
+    requires few { parts ≤ 32 }
+    requires order { AllHaveOrder order.now tapes.now }
+    ensures { IfOk result (AreCuts tapes.now parts) }
+{
+    let mut samples = take_samples(alloc, tapes)?;
+    samples.sort_unstable();
+    choose_cuts(alloc, &samples, parts)
+}
+
+fn take_samples(alloc: Global, tapes: &Tapes) -> Result<Vec<&[u8]>, AllocError>
+    ensures { IfOk result (λ samples. bytes_of samples.items ≡ all_samples tapes.now) }
+{
+    let mut samples = Vec::new(alloc);
+    for tape in 0..tapes.len() {
+        sample_tape(tapes.get(tape), &mut samples)?;
+    }
+    Ok(samples)
+}
+
+fn sample_tape<'a>(tape: &'a Tape, samples: &mut Vec<&'a [u8]>) -> Result<(), AllocError>
+    ensures { OnOk result (bytes_of samples.new.items
+        ≡ bytes_of samples.old.items ++ flat_map samples_of tape.now) }
+{
+    for run in 0..tape.runs() {
+        sample_run(tape.run(run), samples)?;
+    }
+    Ok(())
+}
+
+fn sample_run<'a>(run: &'a Run, samples: &mut Vec<&'a [u8]>) -> Result<(), AllocError>
+    ensures { OnOk result (bytes_of samples.new.items
+        ≡ bytes_of samples.old.items ++ samples_of run.now) }
+{
+    for number in 0..run.len().div_ceil(STRIDE) {
+        samples.push(run.order_at(number * STRIDE))?;
+    }
+    Ok(())
+}
+
+// The cuts at equal shares of samples in order.
+fn choose_cuts(alloc: Global, samples: &[&[u8]], parts: u32) -> Result<Cuts, AllocError>
+    requires some { 1 ≤ parts }
+    requires few { parts ≤ 32 }
+    requires ascending { IsSorted bytes_cmp (bytes_of samples.now) }
+    ensures { IfOk result (AreAtShares (bytes_of samples.now) parts) }
+{
+    let mut cuts = Items::new(alloc);
+    for number in 1..parts {
+        if cuts
+            .push(choose_cut(alloc, samples, parts, number)?)
+            .is_err()
+        {
+            return Err(AllocError);
+        }
+    }
+    Ok(Cuts::of(cuts))
+}
+
+// The cut with a number, counted from 1.
+fn choose_cut(
+    alloc: Global,
+    samples: &[&[u8]],
+    parts: u32,
+    number: u32,
+) -> Result<Bytes, AllocError>
+    requires { number < parts }
+    ensures { IfOk result (λ cut. cut ≡ cut_at (bytes_of samples.now) parts number) }
+{
+    let share = u128::from(number) * samples.len() as u128 / u128::from(parts);
+    let bytes = match samples.get(share as usize) {
+        Some(sample) => sample.to_vec(alloc)?,
+        None => Vec::new(alloc),
+    };
+    Ok(Items::from_vec(bytes))
+}

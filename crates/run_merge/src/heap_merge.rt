@@ -1,0 +1,75 @@
+ghost use Rattle.std.specs.Prelude.{◌≡◌, IfOk, OnErr, false};
+ghost use Rattle.std.specs.List.Sorted.{IsPermutation};
+ghost use Rattle.run_merge.specs.Merging.{Gives};
+ghost use Rattle.run_merge.specs.Sorted.{AllHaveOrder, all_records};
+
+use crate::between::Between;
+use crate::head::Head;
+use crate::heads::heads_between;
+use crate::heap::move_on;
+use opclass::SortSpec;
+use shared_tape::{Record, Tapes};
+use std::alloc::{AllocError, Global};
+use std::marker::Model;
+
+/// The merge of all runs of several tapes, by a heap of their heads.
+#[derive(Debug, Drop)]
+pub(crate) struct HeapMerge {
+    order: SortSpec,
+    tapes: Tapes,
+    heads: Vec<Head>,
+}
+
+impl Model for HeapMerge {
+    ghost use Rattle.std.specs.Prelude.{false};
+    ghost use Rattle.run_merge.specs.Merging.{Merging};
+    ghost use Rattle.run_merge.specs.Sorted.{AllHaveOrder};
+    ghost use Rattle.run_merge.specs.Heads.{AreHeads, left_of};
+
+    ghost Value = { Merging };
+
+    ghost view = { λ merge. record {
+      order = merge.order;
+      left = left_of merge.tapes merge.heads.items;
+      in_order = false;
+    } };
+
+    ghost invariant = { λ merge. record {
+      order : AllHaveOrder merge.order merge.tapes;
+      heads : AreHeads merge.tapes merge.heads.items;
+    } };
+}
+
+impl HeapMerge {
+    /// The merge of these tapes, whose runs have this order.
+    pub fn new(alloc: Global, tapes: Tapes, order: SortSpec) -> Result<HeapMerge, AllocError>
+        requires { AllHaveOrder order tapes }
+        ensures order { IfOk result (λ merge. merge.order ≡ order) }
+        ensures left { IfOk result (λ merge. IsPermutation (all_records tapes) merge.left) }
+        ensures in_order { IfOk result (λ merge. merge.in_order ≡ false) }
+    {
+        let whole = Between {
+            low: None,
+            high: None,
+        };
+        let heads = heads_between(alloc, &tapes, whole)?;
+        Ok(HeapMerge {
+            order,
+            tapes,
+            heads,
+        })
+    }
+
+    /// Gives the next record, as `Merged::next` does.
+    pub fn next(&mut self) -> Result<Option<Record>, AllocError>
+        ensures given { IfOk result (λ next. Gives self.old self.new next) }
+        ensures kept { OnErr result (self.new ≡ self.old) }
+    {
+        let Some(first) = self.heads.first() else {
+            return Ok(None);
+        };
+        let row = first.run(&self.tapes).read_at(first.at)?;
+        move_on(&self.tapes, &mut self.heads);
+        Ok(Some(row))
+    }
+}

@@ -1,0 +1,29 @@
+//! What holds of records in their order and of their parts, whatever the records are.
+
+ghost use Rattle.run_merge.specs.Laws.{MergesGiveSorted, OrderedAreGivenInPlace, PartsAreTheWhole, SortedRecordsAreOne, SortedRecordsAscendStrictly};
+
+/// Records of which no two have equal keys and row pointers ascend strictly in their order.
+pub fn sorted_records_ascend_strictly()
+    ensures { SortedRecordsAscendStrictly }
+{}
+
+/// And there is only one list of them in order.
+pub fn sorted_records_are_one()
+    ensures { SortedRecordsAreOne }
+{}
+
+/// What a merge gives until it has none are its records in order.
+pub fn merges_give_sorted()
+    ensures { MergesGiveSorted }
+{}
+
+/// Records that stand in order already are given as they stand.
+pub fn ordered_are_given_in_place()
+    ensures { OrderedAreGivenInPlace }
+{}
+
+/// The parts between ascending cuts, each in order, are the whole in order when they are put behind
+/// each other.
+pub fn parts_are_the_whole()
+    ensures { PartsAreTheWhole }
+{}
