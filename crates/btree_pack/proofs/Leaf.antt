@@ -15,7 +15,7 @@ use Rattle.btree_pack.specs.Page.{special_space}
 use Rattle.btree_pack.specs.Tuple.{int4_bytes, plain_tuple}
 use Rattle.btree_pack.specs.declared.row.OneRow.{OneRow}
 
-length-row_pointer_bytes : (ptr : RowPtr) → length (row_pointer_bytes ptr) ≡ 6
+pub length-row_pointer_bytes : (ptr : RowPtr) → length (row_pointer_bytes ptr) ≡ 6
 unfolding row_pointer_bytes
 length-row_pointer_bytes ptr = simp (length-append, length-number_bytes) refl
 

@@ -1,5 +1,5 @@
 -- The writes of the meta page, over a page without items.
-use Rattle.std.proofs.Common.{◌≡◌, ℕ, List, [], ◌++◌, length, refl, sym, ap, ◌∙◌, arith, length-append}
+use Rattle.std.proofs.Common.{◌≡◌, ℕ, Bool, List, [], ◌++◌, length, refl, sym, ap, ◌∙◌, arith, length-append}
 use Rattle.std.proofs.lemmas.List.{append_assoc, append-nil}
 use Rattle.pg_bytes.proofs.ItemPage.{length-page_header, written-lower}
 use Rattle.pg_bytes.proofs.Writes.{length-number_bytes, length-zeros, written-middle, zeros-append}
@@ -9,16 +9,16 @@ use Rattle.pg_bytes.specs.Places.{written, zeros}
 use Rattle.btree_pack.proofs.Leaf.{length-special_space}
 use Rattle.btree_pack.specs.Page.{is_meta, meta_fields, meta_page, special_space}
 
-pub length-meta_fields : (root level : ℕ) → length (meta_fields root level) ≡ 48
+pub length-meta_fields : (root level : ℕ) (equal : Bool) → length (meta_fields root level equal) ≡ 48
 unfolding meta_fields
-length-meta_fields root level = simp (length-append, length-number_bytes, length-zeros) refl
+length-meta_fields root level equal = simp (length-append, length-number_bytes, length-zeros) refl
 
-pub written-meta_page : (root level : ℕ) (fields special : List ℕ) → fields ≡ meta_fields root level → special ≡ special_space 0 0 0 is_meta
-    → written special 8176 (written fields 24 (written (number_bytes 2 72) 12 (empty_page 16))) ≡ meta_page root level
+pub written-meta_page : (root level : ℕ) (equal : Bool) (fields special : List ℕ) → fields ≡ meta_fields root level equal → special ≡ special_space 0 0 0 is_meta
+    → written special 8176 (written fields 24 (written (number_bytes 2 72) 12 (empty_page 16))) ≡ meta_page root level equal
 unfolding empty_page meta_page
-written-meta_page root level fields special are_fields is_special =
+written-meta_page root level equal fields special are_fields is_special =
     let header : List ℕ = page_header 72 8176 8176 in
-    let fields_end : length fields ≡ 48 = ap length are_fields ∙ length-meta_fields root level in
+    let fields_end : length fields ≡ 48 = ap length are_fields ∙ length-meta_fields root level equal in
     let special_end : length special ≡ 16 = ap length is_special ∙ length-special_space 0 0 0 is_meta in
     let header_end : length header ≡ 24 = length-page_header 72 8176 8176 in
     let front : List ℕ = header ++ (fields ++ zeros 8104) in
@@ -37,6 +37,6 @@ written-meta_page root level fields special are_fields is_special =
     ∙ written-middle special front (zeros 16) [] 8176 front_end (special_end ∙ sym (length-zeros 16))
     ∙ simp (append_assoc, append-nil, are_fields, is_special) refl
 
-pub length-meta_page : (root level : ℕ) → length (meta_page root level) ≡ 8192
+pub length-meta_page : (root level : ℕ) (equal : Bool) → length (meta_page root level equal) ≡ 8192
 unfolding meta_page
-length-meta_page root level = simp (length-append, length-page_header, length-meta_fields, length-zeros, length-special_space) refl
+length-meta_page root level equal = simp (length-append, length-page_header, length-meta_fields, length-zeros, length-special_space) refl

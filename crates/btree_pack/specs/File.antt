@@ -1,5 +1,5 @@
 -- The B-tree file of rows that fit on one leaf, which is the root then (_bt_load and _bt_uppershutdown of nbtsort.c).
-use Rattle.std.specs.Prelude.{ℕ, ◌+◌, List, [], ◌∷◌, ◌++◌, map}
+use Rattle.std.specs.Prelude.{ℕ, ◌+◌, true, List, [], ◌∷◌, ◌++◌, map}
 use Rattle.btree_pack.specs.Tuple.{plain_tuple, int4_bytes}
 use Rattle.btree_pack.specs.Page.{is_leaf, is_root, meta_page, rightmost_page}
 use Rattle.btree_pack.specs.declared.row.OneRow.{OneRow}
@@ -15,5 +15,5 @@ tuple_of row = plain_tuple row.ptr (int4_bytes row.key)
 
 -- without rows the meta page alone, else the one leaf behind it
 abbrev pub one_leaf_file : List OneRow → List ℕ
-one_leaf_file [] = meta_page 0 0
-one_leaf_file (row ∷ rows) = meta_page 1 0 ++ rightmost_page 0 0 (is_leaf + is_root) (map tuple_of (row ∷ rows))
+one_leaf_file [] = meta_page 0 0 true
+one_leaf_file (row ∷ rows) = meta_page 1 0 true ++ rightmost_page 0 0 (is_leaf + is_root) (map tuple_of (row ∷ rows))

@@ -1,9 +1,9 @@
 -- Pages of a B-tree file (BTPageOpaqueData and BTMetaPageData of nbtree.h).
-use Rattle.std.specs.Prelude.{ℕ, ◌+◌, ◌-◌, List, [], ◌∷◌, ◌++◌}
+use Rattle.std.specs.Prelude.{ℕ, ◌+◌, ◌-◌, Bool, if◌then◌else◌, List, [], ◌∷◌, ◌++◌, length}
 use Rattle.pg_bytes.specs.Numbers.{number_bytes}
 use Rattle.pg_bytes.specs.Places.{zeros}
-use Rattle.pg_bytes.specs.PageLayout.{page_header, page_size, header_size}
-use Rattle.pg_bytes.specs.ItemPage.{item_page}
+use Rattle.pg_bytes.specs.PageLayout.{page_header, page_size, header_size, aligned, normal_word}
+use Rattle.pg_bytes.specs.ItemPage.{item_page, line_pointers, lower_at, placed_items, upper_at}
 
 -- the flags of a page
 abbrev pub is_leaf : ℕ
@@ -40,16 +40,26 @@ special_space prev next level flags =
 abbrev pub rightmost_page : ℕ → ℕ → ℕ → List (List ℕ) → List ℕ
 rightmost_page prev level flags tuples = item_page (special_space prev 0 level flags) tuples
 
+-- A page that has a right neighbour: its high key, which bounds its keys from above, has the first line pointer
+-- (P_HIKEY of nbtree.h), and was placed last, below its items (_bt_buildadd of nbtsort.c).
+unfoldable pub page_with_high_key : List ℕ → List ℕ → List (List ℕ) → List ℕ
+page_with_high_key special high_key tuples =
+    page_header (lower_at (high_key ∷ tuples)) (upper_at special (high_key ∷ tuples)) (page_size - length special)
+    ++ (number_bytes 4 (normal_word (upper_at special (high_key ∷ tuples)) (length high_key))
+    ++ (line_pointers (page_size - length special) tuples
+    ++ (zeros (upper_at special (high_key ∷ tuples) - lower_at (high_key ∷ tuples))
+    ++ (aligned high_key ++ (placed_items tuples ++ special)))))
+
 -- the meta page's fields: magic and version, root and its level twice, no pages to clean up, -1.0 as the number of
--- heap tuples at the last cleanup, and that equal keys have equal images
-unfoldable pub meta_fields : ℕ → ℕ → List ℕ
-meta_fields root level =
+-- heap tuples at the last cleanup, and whether equal keys have equal images
+unfoldable pub meta_fields : ℕ → ℕ → Bool → List ℕ
+meta_fields root level equal_images =
     number_bytes 4 btree_magic ++ (number_bytes 4 btree_version
     ++ (number_bytes 4 root ++ (number_bytes 4 level ++ (number_bytes 4 root ++ (number_bytes 4 level
-    ++ (number_bytes 4 0 ++ (zeros 4 ++ ((0 ∷ 0 ∷ 0 ∷ 0 ∷ 0 ∷ 0 ∷ 0xF0 ∷ 0xBF ∷ []) ++ (1 ∷ zeros 7)))))))))
+    ++ (number_bytes 4 0 ++ (zeros 4 ++ ((0 ∷ 0 ∷ 0 ∷ 0 ∷ 0 ∷ 0 ∷ 0xF0 ∷ 0xBF ∷ []) ++ ((if equal_images then 1 else 0) ∷ zeros 7)))))))))
 
 -- block 0, which names the root: block and level 0 where the index has no rows
-unfoldable pub meta_page : ℕ → ℕ → List ℕ
-meta_page root level =
+unfoldable pub meta_page : ℕ → ℕ → Bool → List ℕ
+meta_page root level equal_images =
     page_header meta_end special_start special_start
-    ++ (meta_fields root level ++ (zeros (special_start - meta_end) ++ special_space 0 0 0 is_meta))
+    ++ (meta_fields root level equal_images ++ (zeros (special_start - meta_end) ++ special_space 0 0 0 is_meta))

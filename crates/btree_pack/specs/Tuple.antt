@@ -1,5 +1,5 @@
 -- Index tuples (IndexTupleData of itup.h).
-use Rattle.std.specs.Prelude.{ℕ, ◌+◌, List, ◌++◌, length, ℤ}
+use Rattle.std.specs.Prelude.{ℕ, ◌+◌, ◌/◌, ◌%◌, ◌^◌, List, ◌++◌, length, drop, ℤ}
 use Rattle.std.specs.Int.{w32, cast_unsigned}
 use Rattle.pg_bytes.specs.Numbers.{number_bytes, rounded_up}
 use Rattle.pg_bytes.specs.PageLayout.{aligned}
@@ -18,3 +18,12 @@ plain_tuple ptr key =
 -- the bytes of an int4 value
 unfoldable pub int4_bytes : ℤ → List ℕ
 int4_bytes value = number_bytes 4 (cast_unsigned w32 value)
+
+-- the pivot tuple without keys, which stands for minus infinity and leads to a child (_bt_sortaddtup of nbtsort.c): the
+-- child's block in the place of the row pointer's, no attributes, and INDEX_ALT_TID_MASK beside the size
+unfoldable pub minus_infinity : ℕ → List ℕ
+minus_infinity child = row_pointer_bytes (record { block = child; offset = 0 }) ++ number_bytes 2 (0x2000 + key_place)
+
+-- a pivot tuple led to a child (BTreeTupleSetDownLink of nbtree.h): the child's block in its first four bytes
+unfoldable pub with_child : ℕ → List ℕ → List ℕ
+with_child child pivot = number_bytes 2 (child / 2 ^ 16) ++ (number_bytes 2 (child % 2 ^ 16) ++ drop 4 pivot)

@@ -25,11 +25,19 @@ pub fn one_leaf(alloc: Global, rows: &[OneRow]) -> Result<IndexImage, AllocError
 {
     let mut image = IndexImage::new(alloc);
     if rows.is_empty() {
-        let meta = MetaPage { root: 0, level: 0 };
+        let meta = MetaPage {
+            root: 0,
+            level: 0,
+            equal_images: true,
+        };
         image.place(0, &meta.page(alloc)?)?;
         return Ok(image);
     }
-    let meta = MetaPage { root: 1, level: 0 };
+    let meta = MetaPage {
+        root: 1,
+        level: 0,
+        equal_images: true,
+    };
     image.place(0, &meta.page(alloc)?)?;
     image.place(1, &leaf_page(alloc, rows)?)?;
     Ok(image)

@@ -7,11 +7,12 @@ use pg_bytes::{PAGE_HEADER, PD_LOWER, PageBuf};
 use std::alloc::{AllocError, Global};
 
 /// What block 0 says (`BTMetaPageData` of `nbtree.h`): the root's block, and its level above the
-/// leaves. Both are 0 where the index has no rows.
+/// leaves, both 0 where the index has no rows; and whether equal keys have equal tuples.
 #[derive(Clone, Copy, Debug, PartialEq, Eq)]
 pub struct MetaPage {
     pub root: u32,
     pub level: u32,
+    pub equal_images: bool,
 }
 
 // `BTREE_MAGIC` and `BTREE_VERSION`.
@@ -31,7 +32,8 @@ impl MetaPage {
     /// The page of block 0 (`_bt_initmetapage` of `nbtpage.c`). An error means that no memory was
     /// left.
     pub fn page(&self, alloc: Global) -> Result<PageBuf, AllocError>
-        ensures { IfOk result (λ page. page ≡ meta_page self.now.root self.now.level) }
+        ensures { IfOk result (λ page. page ≡
+            meta_page self.now.root self.now.level self.now.equal_images) }
     {
         let special = SpecialSpace {
             prev: 0,
@@ -49,7 +51,7 @@ impl MetaPage {
     // The fields as they stand behind the page's header.
     #[tactic(auto, unfolding(crate::specs::Page::meta_fields, pg_bytes::specs::Numbers::number_bytes, pg_bytes::specs::Places::zeros))]
     fn fields(&self) -> [u8; FIELDS]
-        ensures { result ≡ meta_fields self.now.root self.now.level }
+        ensures { result ≡ meta_fields self.now.root self.now.level self.now.equal_images }
     {
         let mut fields = [0u8; FIELDS];
         LittleEndian::write_u32(&mut fields, MAGIC);
@@ -59,7 +61,7 @@ impl MetaPage {
         LittleEndian::write_u32(&mut fields[16..], self.root);
         LittleEndian::write_u32(&mut fields[20..], self.level);
         LittleEndian::write_u64(&mut fields[32..], NEVER_CLEANED);
-        fields[40] = 1;
+        fields[40] = u8::from(self.equal_images);
         fields
     }
 }
