@@ -1,5 +1,5 @@
 -- Which indexes the statement of an index describes.
-use Rattle.std.proofs.Common.{◌≡◌, ℕ, zero, suc, ◌<◌, ◌≤◌, ◌+◌, ◌-◌, Bool, true, false, cond, ◌&&◌, nat_le, nat_lt, List, [], ◌∷◌, length, drop, Option, Some, None, Result, Ok, Err, slice_get, refl, ap, sym, subst, inl, inr, ◌⊎◌, arith, length-append, All, codes, lit≤, neg_ℤ, pos}
+use Rattle.std.proofs.Common.{◌≡◌, ℕ, ◌<◌, ◌≤◌, ◌+◌, ◌-◌, Bool, true, false, cond, ◌&&◌, nat_le, nat_lt, List, [], ◌∷◌, length, drop, Option, Some, None, Result, Ok, Err, slice_get, refl, ap, sym, subst, inl, inr, ◌⊎◌, arith, length-append, All, codes, lit≤, ◌≢◌, ◌∙◌, not}
 use Rattle.std.specs.Option.{option_map_or}
 use Rattle.std.proofs.lemmas.Bool.Decides.{nat_tests}
 use Rattle.std.proofs.lemmas.List.Elements.{All-nil, All-push}
@@ -7,79 +7,33 @@ use Rattle.std.specs.Str.{bytes_eq}
 use Rattle.stmt_token.specs.declared.sign.Sign.TheVariants.{Comma, Equal, LeftParen, RightParen}
 use Rattle.stmt_token.specs.Borrowed.{number_of}
 use Rattle.stmt_token.specs.Tokens.{TokenValue}
-use Rattle.opclass.specs.declared.types.ColType.{ColType}
-use Rattle.opclass.specs.declared.types.Compared.{Compared}
-use Rattle.opclass.specs.declared.types.Compared.TheVariants.{Never, WithNumber, WithText, WithTruth}
 use Rattle.opclass.specs.declared.types.Method.{Method}
 use Rattle.opclass.specs.declared.types.Method.TheVariants as method
-use Rattle.opclass.specs.declared.filter.Op.{Op}
-use Rattle.opclass.specs.declared.filter.Op.TheVariants.{Eq, Ne, Lt, Le, Gt, Ge}
-use Rattle.opclass.specs.declared.filter.Test.{Test}
-use Rattle.opclass.specs.declared.filter.Test.TheVariants.{IsNull, NotNull, Num, Raw}
-use Rattle.opclass.specs.declared.filter.Cond.{Cond}
 use Rattle.opclass.specs.declared.spec.IndexSpec.{IndexSpec}
 use Rattle.opclass.specs.declared.spec.KeyCol.{KeyCol}
-use Rattle.opclass.specs.declared.table.Column.{Column}
 use Rattle.opclass.specs.declared.table.Table.{Table}
 use Rattle.opclass.specs.Types.{facts_of, takes_key}
 use Rattle.index_stmt.specs.declared.columns.Found.{Found}
 use Rattle.index_stmt.specs.declared.fault.StmtCause.{StmtCause}
-use Rattle.index_stmt.specs.declared.fault.StmtCause.TheVariants.{NotAllowed, OutOfRange, UnknownName}
+use Rattle.index_stmt.specs.declared.fault.StmtCause.TheVariants.{NotAllowed, OutOfRange, UnknownName, Repeated}
 use Rattle.index_stmt.specs.declared.options.OptionName.{OptionName}
 use Rattle.index_stmt.specs.declared.options.OptionName.TheVariants.{DeduplicateItems, Fastupdate, Fillfactor, PagesPerRange}
 use Rattle.index_stmt.specs.declared.options.Settings.{Settings}
-use Rattle.index_stmt.specs.Columns.{collation, column_from, column_named, known_column}
-use Rattle.index_stmt.specs.Conditions.{Literal, OfNumber, OfText, OfTruth, cast, comparison, condition, conjunction, filter_rule, item, known_operator, literal, literal_in, null_test, operator_in, takes_numbers, test_rule, test_with, truth_number}
-use Rattle.index_stmt.specs.IndexStatement.{direction, distinctness, include_list, included, includes, index_column, index_head, index_statement, is_btree, key, key_list, most_columns, nulls_order}
-use Rattle.index_stmt.specs.Meaning.{IsConditionOn, IsIndexOver, IsKeyOf, IsTestOf}
-use Rattle.index_stmt.specs.Names.{name, word_in}
-use Rattle.index_stmt.specs.Options.{as_truth, fillfactor_of, in_range, known_option, option, option_list, options, pages_per_range_of, set_to, truth_in, unset, value_in, with_option}
-use Rattle.index_stmt.specs.Rule.{Rule, ◌>>=◌, done, is_sign, is_word, judged, meaning, next_is, refused, separated, sign, token_as, word}
+use Rattle.index_stmt.specs.Columns.{collation, column_named}
+use Rattle.index_stmt.specs.Conditions.{filter_rule}
+use Rattle.index_stmt.specs.IndexStatement.{direction, distinctness, include_list, included, includes, index_column, index_head, index_statement, is_btree, key, key_list, nulls_order, known_method, method_named, method_rule, this_table, uniqueness}
+use Rattle.opclass.specs.Indexes.{IsIndexOver, IsKeyOf, IsPlain, most_columns}
+use Rattle.index_stmt.specs.Names.{name, word_in, qualified}
+use Rattle.index_stmt.specs.Options.{as_truth, fillfactor_of, in_range, known_option, option, option_list, options, pages_per_range_of, set_to, truth_in, unset, value_in, with_option, deduplicate_of, is_set, option_named}
+use Rattle.index_stmt.specs.Rule.{done, is_sign, is_word, meaning, next_is, refused, separated, sign, token_as, word}
 use Rattle.index_stmt.specs.TableStatement.{end_of_statement}
-use Rattle.index_stmt.specs.TypeNames.{number}
 use Rattle.index_stmt.proofs.Lists.{both_read}
-use Rattle.index_stmt.proofs.PrintedTables.{both_true}
+use Rattle.index_stmt.proofs.Spellable.{both_true}
 use Rattle.index_stmt.proofs.Tables.{same_value, separated_leads}
 use Rattle.index_stmt.proofs.Taking.{if_read}
-
--- a column that is found stands in the table
-pub record Stands (columns : List Column) (number : ℕ) (found : Found) : Type 0 where
-  pub place : ℕ
-  pub column : Column
-  pub number_is : found.number ≡ number + place
-  pub at : slice_get columns place ≡ Some column
-  pub kind : column.kind ≡ found.kind
-
-found_behind : (b : Bool) (number : ℕ) (first : Column) (others : List Column) (wanted : List ℕ) (found : Found)
-    → (column_from (number + 1) others wanted ≡ Some found → Stands others (number + 1) found)
-    → cond b (Some (record { number = number; kind = first.kind })) (column_from (number + 1) others wanted) ≡ Some found
-    → Stands (first ∷ others) number found
-found_behind true number first others wanted found rest e =
-    let here : ◌≡◌ {A = Found} (record { number = number; kind = first.kind }) found = cc in
-    let n = ap (λ (f : Found). f.number) here in
-    record { place = 0; column = first; number_is = omega (arith, n); at = refl; kind = ap (λ (f : Found). f.kind) here }
-found_behind false number first others wanted found rest e =
-    let stands = rest e in
-    let n = stands.number_is in
-    record { place = suc stands.place; column = stands.column; number_is = omega (arith, n); at = stands.at; kind = stands.kind }
-
-found_stands : (number : ℕ) (columns : List Column) (wanted : List ℕ) (found : Found) → column_from number columns wanted ≡ Some found
-    → Stands columns number found
-found_stands number [] wanted found e = cc
-found_stands number (first ∷ others) wanted found e =
-    found_behind (bytes_eq first.name wanted) number first others wanted found (found_stands (number + 1) others wanted found) e
-
--- what was meant was let through
-let_through : {B : Type 0} (r : Result B StmtCause) (begun tokens rest : List TokenValue) (meant : B)
-    → judged r begun tokens ≡ Ok (meant, rest) → r ≡ Ok meant
-let_through (Ok value) begun tokens rest meant e = ap Ok (same_value value meant tokens rest e)
-let_through (Err cause) begun tokens rest meant e = cc
-
-meant_of : {A B : Type 0} (rule : Rule A) (judge : A → Result B StmtCause) (tokens rest : List TokenValue) (meant : B)
-    → meaning rule judge tokens ≡ Ok (meant, rest) → (read : A) × (judge read ≡ Ok meant)
-meant_of rule judge tokens rest meant e =
-    let both = both_read (rule tokens) (λ read. judged (judge read) tokens) meant rest e in
-    (both.0, let_through (judge both.0) tokens both.1 rest meant both.3)
+use Rattle.index_stmt.specs.declared.index_statement.Head.{Head}
+use Rattle.index_stmt.proofs.Filters.{filter_is}
+use Rattle.index_stmt.proofs.Found.{Stands, found_stands, meant_of, not_allowed}
 
 stands_key : (table : Table) (kind_of : Method) (found : Found) → Stands table.columns 1 found
     → takes_key kind_of (facts_of found.kind).key_use ≡ true → IsKeyOf table kind_of found.number
@@ -120,6 +74,28 @@ index_column_is table kind_of columns called found e = which (column_named table
 pub record AreKeys (table : Table) (kind_of : Method) (keys : List KeyCol) : Type 0 where
   pub each : All (λ key. IsKeyOf table kind_of key.column) keys
   pub most : length keys ≤ most_columns kind_of
+  pub plain : kind_of ≢ method.BTree → All IsPlain keys
+
+-- a key of another method than a B-tree is sorted as it is where nothing is said
+ascending : (kind_of : Method) (tokens : List TokenValue) (descending : Bool) (rest : List TokenValue)
+    → direction kind_of tokens ≡ Ok (descending, rest) → kind_of ≢ method.BTree → descending ≡ false
+unfolding direction
+ascending method.BTree tokens descending rest e other = absurd (other refl)
+ascending method.Brin tokens descending rest e other =
+    let desc = not_allowed (next_is (is_word (codes "asc")) tokens) tokens _ descending rest e in
+    sym (same_value false descending tokens rest (not_allowed (next_is (is_word (codes "desc")) tokens) tokens _ descending rest desc))
+ascending method.Gin tokens descending rest e other =
+    let desc = not_allowed (next_is (is_word (codes "asc")) tokens) tokens _ descending rest e in
+    sym (same_value false descending tokens rest (not_allowed (next_is (is_word (codes "desc")) tokens) tokens _ descending rest desc))
+
+unsaid : (kind_of : Method) (descending : Bool) (tokens : List TokenValue) (nulls_first : Bool) (rest : List TokenValue)
+    → nulls_order kind_of descending tokens ≡ Ok (nulls_first, rest) → kind_of ≢ method.BTree → descending ≡ nulls_first
+unfolding nulls_order
+unsaid method.BTree descending tokens nulls_first rest e other = absurd (other refl)
+unsaid method.Brin descending tokens nulls_first rest e other =
+    same_value descending nulls_first tokens rest (not_allowed (next_is (is_word (codes "nulls")) tokens) tokens (Ok (descending, tokens)) nulls_first rest e)
+unsaid method.Gin descending tokens nulls_first rest e other =
+    same_value descending nulls_first tokens rest (not_allowed (next_is (is_word (codes "nulls")) tokens) tokens (Ok (descending, tokens)) nulls_first rest e)
 
 key_leads : (table : Table) (kind_of : Method) (keys : List KeyCol) (tokens : List TokenValue) (after : List KeyCol) (rest : List TokenValue)
     → AreKeys table kind_of keys → key table kind_of keys tokens ≡ Ok (after, rest) → (0 < length after) × AreKeys table kind_of after
@@ -140,6 +116,10 @@ key_leads table kind_of keys tokens after rest are e =
       record {
         each = All-push (λ (key : KeyCol). IsKeyOf table kind_of key.column) keys one are.each column.0;
         most = omega (arith, longer, room);
+        plain = λ other.
+            let down = ascending kind_of b.1 c.0 c.1 c.2 other in
+            All-push IsPlain keys one (are.plain other)
+            (record { ascending = down; nulls_last = sym (unsaid kind_of c.0 c.1 d.0 d.1 d.2 other) ∙ down });
       },
     )
 
@@ -175,22 +155,30 @@ include_list_is table keys tokens columns rest few e =
     [] a.1 b.0 b.1 (record { each = All-nil _; most = omega (arith, few) }) b.2)
 
 -- none, or of a B-tree
+record AreIncludes (table : Table) (kind_of : Method) (keys : ℕ) (columns : List ℕ) : Type 0 where
+  each : All (IsKeyOf table kind_of) columns
+  most : keys + length columns ≤ most_columns kind_of
+  none : kind_of ≢ method.BTree → columns ≡ []
+
 includes_is : (table : Table) (kind_of : Method) (keys : ℕ) (tokens : List TokenValue) (columns : List ℕ) (rest : List TokenValue)
     → keys ≤ most_columns kind_of → includes table kind_of keys tokens ≡ Ok (columns, rest)
-    → All (IsKeyOf table kind_of) columns × (keys + length columns ≤ most_columns kind_of)
+    → AreIncludes table kind_of keys columns
 unfolding includes
 includes_is table kind_of keys tokens columns rest few e = which (next_is (is_word (codes "include")) tokens) kind_of few e
   where
-    none : (kind_of : Method) → keys ≤ most_columns kind_of → [] ≡ columns → All (IsKeyOf table kind_of) columns × (keys + length columns ≤ most_columns kind_of)
-    none kind_of few is = subst (λ columns. All (IsKeyOf table kind_of) columns × (keys + length columns ≤ most_columns kind_of)) is (All-nil _, omega (arith, few))
+    without : (kind_of : Method) → keys ≤ most_columns kind_of → [] ≡ columns → AreIncludes table kind_of keys columns
+    without kind_of few is =
+        subst (AreIncludes table kind_of keys) is (record { each = All-nil _; most = omega (arith, few); none = λ other. refl })
 
     which : (b : Bool) (kind_of : Method) → keys ≤ most_columns kind_of
         → cond b (cond (is_btree kind_of) (include_list table keys (drop 1 tokens)) (refused NotAllowed tokens)) (done [] tokens) ≡ Ok (columns, rest)
-        → All (IsKeyOf table kind_of) columns × (keys + length columns ≤ most_columns kind_of)
-    which true method.BTree few e = let is = include_list_is table keys (drop 1 tokens) columns rest few e in (is.each, is.most)
+        → AreIncludes table kind_of keys columns
+    which true method.BTree few e =
+        let is = include_list_is table keys (drop 1 tokens) columns rest few e in
+        record { each = is.each; most = is.most; none = λ other. absurd (other refl) }
     which true method.Brin few e = cc
     which true method.Gin few e = cc
-    which false kind_of few e = none kind_of few (same_value [] columns tokens rest e)
+    which false kind_of few e = without kind_of few (same_value [] columns tokens rest e)
 
 key_list_is : (table : Table) (kind_of : Method) (tokens : List TokenValue) (keys : List KeyCol) (rest : List TokenValue)
     → key_list table kind_of tokens ≡ Ok (keys, rest) → (0 < length keys) × AreKeys table kind_of keys
@@ -201,12 +189,61 @@ key_list_is table kind_of tokens keys rest e =
     let c = both_read (sign RightParen b.1) _ keys rest b.3 in
     subst (λ keys. (0 < length keys) × AreKeys table kind_of keys) (same_value _ keys c.1 rest c.3)
     (separated_leads (AreKeys table kind_of) (λ keys. (0 < length keys) × AreKeys table kind_of keys) (is_sign Comma) (key table kind_of)
-    (key_leads table kind_of) (λ s both. both.1) [] a.1 b.0 b.1 (record { each = All-nil _; most = omega arith }) b.2)
+    (key_leads table kind_of) (λ s both. both.1) [] a.1 b.0 b.1 (record { each = All-nil _; most = omega arith; plain = λ other. All-nil _ }) b.2)
 
--- the options so far lie in their ranges
-pub record AreSettings (settings : Settings) : Type 0 where
-  pub fillfactor : (10 ≤ fillfactor_of settings) × (fillfactor_of settings ≤ 100)
-  pub pages_per_range : (1 ≤ pages_per_range_of settings) × (pages_per_range_of settings ≤ 131072)
+-- nulls are distinct where the index isn't unique
+distinct_is : (unique : Bool) (tokens : List TokenValue) (distinct : Bool) (rest : List TokenValue)
+    → distinctness unique tokens ≡ Ok (distinct, rest) → unique ≡ false → distinct ≡ true
+unfolding distinctness
+distinct_is true tokens distinct rest e plain = cc
+distinct_is false tokens distinct rest e plain =
+    sym (same_value true distinct tokens rest (not_allowed (next_is (is_word (codes "nulls")) tokens) tokens (Ok (true, tokens)) distinct rest e))
+
+-- the method that has an option
+abbrev owner : OptionName → Method
+owner Fillfactor = method.BTree
+owner DeduplicateItems = method.BTree
+owner PagesPerRange = method.Brin
+owner Fastupdate = method.Gin
+
+named_is : (kind_of : Method) (called : List ℕ) (option : OptionName) → option_named kind_of called ≡ Some option → kind_of ≡ owner option
+named_is method.BTree called option e = which (bytes_eq called (codes "fillfactor")) (bytes_eq called (codes "deduplicate_items")) e
+  where
+    which : (a b : Bool) → cond a (Some Fillfactor) (cond b (Some DeduplicateItems) None) ≡ Some option → method.BTree ≡ owner option
+    which true b e = let same : Fillfactor ≡ option = cc in ap owner same
+    which false true e = let same : DeduplicateItems ≡ option = cc in ap owner same
+    which false false e = cc
+named_is method.Brin called option e = which (bytes_eq called (codes "pages_per_range")) e
+  where
+    which : (a : Bool) → cond a (Some PagesPerRange) None ≡ Some option → method.Brin ≡ owner option
+    which true e = let same : PagesPerRange ≡ option = cc in ap owner same
+    which false e = cc
+named_is method.Gin called option e = which (bytes_eq called (codes "fastupdate")) e
+  where
+    which : (a : Bool) → cond a (Some Fastupdate) None ≡ Some option → method.Gin ≡ owner option
+    which true e = let same : Fastupdate ≡ option = cc in ap owner same
+    which false e = cc
+
+known_option_is : (kind_of : Method) (settings : Settings) (called : List ℕ) (option : OptionName)
+    → known_option kind_of settings called ≡ Ok option → kind_of ≡ owner option
+known_option_is kind_of settings called option e = which (option_named kind_of called) refl e
+  where
+    which : (o : Option OptionName) → option_named kind_of called ≡ o
+        → option_map_or (λ option. cond (is_set settings option) (Err Repeated) (Ok option)) o (Err NotAllowed) ≡ Ok option → kind_of ≡ owner option
+    which None is e = cc
+    which (Some one) is e = once (is_set settings one) e
+      where
+        once : (b : Bool) → cond b (Err Repeated) (Ok one) ≡ Ok option → kind_of ≡ owner option
+        once true e = cc
+        once false e = let same : one ≡ option = cc in named_is kind_of called one is ∙ ap owner same
+
+-- the options so far lie in their ranges, and are at their defaults where the method hasn't them
+record AreSettings (kind_of : Method) (settings : Settings) : Type 0 where
+  fillfactor : (10 ≤ fillfactor_of settings) × (fillfactor_of settings ≤ 100)
+  pages_per_range : (1 ≤ pages_per_range_of settings) × (pages_per_range_of settings ≤ 131072)
+  default_fillfactor : kind_of ≢ method.BTree → fillfactor_of settings ≡ 90
+  default_deduplicate : kind_of ≢ method.BTree → deduplicate_of settings ≡ true
+  default_pages : kind_of ≢ method.Brin → pages_per_range_of settings ≡ 128
 
 in_range_is : (low high : ℕ) (value : Option ℕ) (meant : ℕ) → in_range low high value ≡ Ok meant → (low ≤ meant) × (meant ≤ high)
 in_range_is low high None meant e = cc
@@ -227,210 +264,120 @@ set_is : {A : Type 0} (set : A → Settings) (r : Result A StmtCause) (after : S
 set_is set (Ok value) after e = (value, refl, let same : set value ≡ after = cc in same)
 set_is set (Err cause) after e = cc
 
-with_option_is : (settings : Settings) (option : OptionName) (value : TokenValue) (after : Settings) → AreSettings settings
-    → with_option settings option value ≡ Ok after → AreSettings after
-with_option_is settings Fillfactor value after are e =
+with_option_is : (kind_of : Method) (settings : Settings) (option : OptionName) (value : TokenValue) (after : Settings) → AreSettings kind_of settings
+    → kind_of ≡ owner option → with_option settings option value ≡ Ok after → AreSettings kind_of after
+with_option_is kind_of settings Fillfactor value after are known e =
     let set = set_is (λ percent. record settings { fillfactor = Some percent }) (in_range 10 100 (number_of value)) after e in
-    subst AreSettings set.2 (record { fillfactor = in_range_is 10 100 (number_of value) set.0 set.1; pages_per_range = are.pages_per_range })
-with_option_is settings DeduplicateItems value after are e =
+    subst (AreSettings kind_of) set.2 (record {
+      fillfactor = in_range_is 10 100 (number_of value) set.0 set.1;
+      pages_per_range = are.pages_per_range;
+      default_fillfactor = λ other. absurd (other known);
+      default_deduplicate = are.default_deduplicate;
+      default_pages = are.default_pages;
+    })
+with_option_is kind_of settings DeduplicateItems value after are known e =
     let set = set_is (λ on. record settings { deduplicate_items = Some on }) (as_truth (truth_in value)) after e in
-    subst AreSettings set.2 (record { fillfactor = are.fillfactor; pages_per_range = are.pages_per_range })
-with_option_is settings PagesPerRange value after are e =
+    subst (AreSettings kind_of) set.2 (record {
+      fillfactor = are.fillfactor;
+      pages_per_range = are.pages_per_range;
+      default_fillfactor = are.default_fillfactor;
+      default_deduplicate = λ other. absurd (other known);
+      default_pages = are.default_pages;
+    })
+with_option_is kind_of settings PagesPerRange value after are known e =
     let set = set_is (λ pages. record settings { pages_per_range = Some pages }) (in_range 1 131072 (number_of value)) after e in
-    subst AreSettings set.2 (record { fillfactor = are.fillfactor; pages_per_range = in_range_is 1 131072 (number_of value) set.0 set.1 })
-with_option_is settings Fastupdate value after are e =
+    subst (AreSettings kind_of) set.2 (record {
+      fillfactor = are.fillfactor;
+      pages_per_range = in_range_is 1 131072 (number_of value) set.0 set.1;
+      default_fillfactor = are.default_fillfactor;
+      default_deduplicate = are.default_deduplicate;
+      default_pages = λ other. absurd (other known);
+    })
+with_option_is kind_of settings Fastupdate value after are known e =
     let set = set_is (λ on. record settings { fastupdate = Some on }) (as_truth (truth_in value)) after e in
-    subst AreSettings set.2 (record { fillfactor = are.fillfactor; pages_per_range = are.pages_per_range })
+    subst (AreSettings kind_of) set.2 (record {
+      fillfactor = are.fillfactor;
+      pages_per_range = are.pages_per_range;
+      default_fillfactor = are.default_fillfactor;
+      default_deduplicate = are.default_deduplicate;
+      default_pages = are.default_pages;
+    })
 
 option_leads : (kind_of : Method) (settings : Settings) (tokens : List TokenValue) (after : Settings) (rest : List TokenValue)
-    → AreSettings settings → option kind_of settings tokens ≡ Ok (after, rest) → AreSettings after
+    → AreSettings kind_of settings → option kind_of settings tokens ≡ Ok (after, rest) → AreSettings kind_of after
 unfolding option
 option_leads kind_of settings tokens after rest are e =
     let a = both_read (meaning (token_as word_in) (known_option kind_of settings) tokens) _ after rest e in
     let b = both_read (sign Equal a.1) _ after rest a.3 in
+    let called = meant_of (token_as word_in) (known_option kind_of settings) tokens a.1 a.0 a.2 in
     let meant = meant_of (token_as value_in) (with_option settings a.0) b.1 rest after b.3 in
-    with_option_is settings a.0 meant.0 after are meant.1
+    with_option_is kind_of settings a.0 meant.0 after are (known_option_is kind_of settings called.0 a.0 called.1) meant.1
 
-unset_is : AreSettings unset
-unset_is = record { fillfactor = (lit≤ tt, lit≤ tt); pages_per_range = (lit≤ tt, lit≤ tt) }
+unset_is : (kind_of : Method) → AreSettings kind_of unset
+unset_is kind_of = record {
+  fillfactor = (lit≤ tt, lit≤ tt);
+  pages_per_range = (lit≤ tt, lit≤ tt);
+  default_fillfactor = λ other. refl;
+  default_deduplicate = λ other. refl;
+  default_pages = λ other. refl;
+}
 
 option_list_is : (kind_of : Method) (tokens : List TokenValue) (settings : Settings) (rest : List TokenValue)
-    → option_list kind_of tokens ≡ Ok (settings, rest) → AreSettings settings
+    → option_list kind_of tokens ≡ Ok (settings, rest) → AreSettings kind_of settings
 unfolding option_list
 option_list_is kind_of tokens settings rest e =
     let a = both_read (sign LeftParen tokens) _ settings rest e in
     let b = both_read (separated (is_sign Comma) (option kind_of) unset a.1) _ settings rest a.3 in
     let c = both_read (sign RightParen b.1) _ settings rest b.3 in
-    subst AreSettings (same_value _ settings c.1 rest c.3)
-    (separated_leads AreSettings AreSettings (is_sign Comma) (option kind_of) (option_leads kind_of) (λ s is. is) unset a.1 b.0 b.1 unset_is b.2)
+    subst (AreSettings kind_of) (same_value _ settings c.1 rest c.3)
+    (separated_leads (AreSettings kind_of) (AreSettings kind_of) (is_sign Comma) (option kind_of) (option_leads kind_of) (λ s is. is)
+    unset a.1 b.0 b.1 (unset_is kind_of) b.2)
 
 options_is : (kind_of : Method) (tokens : List TokenValue) (settings : Settings) (rest : List TokenValue)
-    → options kind_of tokens ≡ Ok (settings, rest) → AreSettings settings
+    → options kind_of tokens ≡ Ok (settings, rest) → AreSettings kind_of settings
 unfolding options
 options_is kind_of tokens settings rest e = which (if_read (next_is (is_word (codes "with")) tokens) _ _ settings rest e)
   where
-    which : (option_list kind_of (drop 1 tokens) ≡ Ok (settings, rest)) ⊎ (done unset tokens ≡ Ok (settings, rest)) → AreSettings settings
+    which : (option_list kind_of (drop 1 tokens) ≡ Ok (settings, rest)) ⊎ (done unset tokens ≡ Ok (settings, rest)) → AreSettings kind_of settings
     which (inl e) = option_list_is kind_of (drop 1 tokens) settings rest e
-    which (inr e) = subst AreSettings (same_value unset settings tokens rest e) unset_is
+    which (inr e) = subst (AreSettings kind_of) (same_value unset settings tokens rest e) (unset_is kind_of)
 
--- a comparison is with what the type is compared with
-test_with_is : (compared : Compared) (op : Op) (of : Literal) (test : Test) → known_operator compared op ≡ Ok op
-    → test_with compared op of ≡ Ok test → IsTestOf compared test
-test_with_is WithNumber op (OfNumber n) test known e = let same : Num op (pos n) ≡ test = cc in subst (IsTestOf WithNumber) same tt
-test_with_is WithText op (OfText bytes) test known e = let same : Raw op bytes ≡ test = cc in subst (IsTestOf WithText) same tt
-test_with_is WithTruth Eq (OfTruth truth) test known e = let same : Num Eq (truth_number truth) ≡ test = cc in subst (IsTestOf WithTruth) same tt
-test_with_is WithTruth Ne (OfTruth truth) test known e = let same : Num Ne (truth_number truth) ≡ test = cc in subst (IsTestOf WithTruth) same tt
-test_with_is WithTruth Lt (OfTruth truth) test known e = cc
-test_with_is WithTruth Le (OfTruth truth) test known e = cc
-test_with_is WithTruth Gt (OfTruth truth) test known e = cc
-test_with_is WithTruth Ge (OfTruth truth) test known e = cc
-test_with_is Never op of test known e = cc
-test_with_is WithNumber op (OfText bytes) test known e = cc
-test_with_is WithNumber op (OfTruth truth) test known e = cc
-test_with_is WithText op (OfNumber n) test known e = cc
-test_with_is WithText op (OfTruth truth) test known e = cc
-test_with_is WithTruth op (OfNumber n) test known e = cc
-test_with_is WithTruth op (OfText bytes) test known e = cc
-
--- an operator that is let through is let through again
-known_is : (compared : Compared) (op known : Op) → known_operator compared op ≡ Ok known → known_operator compared known ≡ Ok known
-known_is Never op known e = cc
-known_is WithNumber op known e = refl
-known_is WithText op known e = refl
-known_is WithTruth Eq known e = let same : Eq ≡ known = cc in subst (λ op. known_operator WithTruth op ≡ Ok op) same refl
-known_is WithTruth Ne known e = let same : Ne ≡ known = cc in subst (λ op. known_operator WithTruth op ≡ Ok op) same refl
-known_is WithTruth Lt known e = cc
-known_is WithTruth Le known e = cc
-known_is WithTruth Gt known e = cc
-known_is WithTruth Ge known e = cc
-
-abbrev negative : Op → Rule Test
-negative op = number >>= λ number. done (Num op (neg_ℤ (pos number)))
-
--- a literal with `-` is compared with numbers
-negative_is : (compared : Compared) (op : Op) (tokens : List TokenValue) (test : Test) (rest : List TokenValue) → takes_numbers compared ≡ true
-    → negative op tokens ≡ Ok (test, rest) → IsTestOf compared test
-negative_is WithNumber op tokens test rest takes e =
-    let a = both_read (number tokens) _ test rest e in
-    subst (IsTestOf WithNumber) (same_value _ test a.1 rest a.3) tt
-negative_is Never op tokens test rest takes e = cc
-negative_is WithTruth op tokens test rest takes e = cc
-negative_is WithText op tokens test rest takes e = cc
-
-literal_is : (compared : Compared) (op : Op) (tokens : List TokenValue) (test : Test) (rest : List TokenValue) → known_operator compared op ≡ Ok op
-    → literal compared op tokens ≡ Ok (test, rest) → IsTestOf compared test
-unfolding literal
-literal_is compared op tokens test rest known e = which (next_is _ tokens) (takes_numbers compared) refl e
+-- only a B-tree is unique
+known_method_is : (unique : Bool) (called : List ℕ) (kind_of : Method) → known_method unique called ≡ Ok kind_of → kind_of ≢ method.BTree → unique ≡ false
+known_method_is unique called kind_of e other = which (method_named called) unique e
   where
-    plain : meaning (token_as literal_in) (test_with compared op) tokens ≡ Ok (test, rest) → IsTestOf compared test
-    plain e =
-        let meant = meant_of (token_as literal_in) (test_with compared op) tokens rest test e in
-        test_with_is compared op meant.0 test known meant.1
+    which : (o : Option Method) (unique : Bool)
+        → option_map_or (λ method. cond (unique && not (is_btree method)) (Err NotAllowed) (Ok method)) o (Err NotAllowed) ≡ Ok kind_of → unique ≡ false
+    which None unique e = cc
+    which (Some one) false e = refl
+    which (Some method.BTree) true e = let same : method.BTree ≡ kind_of = cc in absurd (other (sym same))
+    which (Some method.Brin) true e = cc
+    which (Some method.Gin) true e = cc
 
-    which : (b allowed : Bool) → takes_numbers compared ≡ allowed
-        → cond b (cond allowed (negative op (drop 1 tokens)) (refused NotAllowed tokens)) (meaning (token_as literal_in) (test_with compared op) tokens) ≡ Ok (test, rest)
-        → IsTestOf compared test
-    which true true takes e = negative_is compared op (drop 1 tokens) test rest takes e
-    which true false takes e = cc
-    which false allowed takes e = plain e
-
-comparison_is : (compared : Compared) (tokens : List TokenValue) (test : Test) (rest : List TokenValue)
-    → comparison compared tokens ≡ Ok (test, rest) → IsTestOf compared test
-unfolding comparison
-comparison_is compared tokens test rest e =
-    let a = both_read (meaning (token_as operator_in) (known_operator compared) tokens) _ test rest e in
-    let b = both_read (literal compared a.0 a.1) _ test rest a.3 in
-    let c = both_read (cast b.1) _ test rest b.3 in
-    let meant = meant_of (token_as operator_in) (known_operator compared) tokens a.1 a.0 a.2 in
-    subst (IsTestOf compared) (same_value _ test c.1 rest c.3)
-    (literal_is compared a.0 a.1 b.0 b.1 (known_is compared meant.0 a.0 meant.1) b.2)
-
-null_test_is : (compared : Compared) (tokens : List TokenValue) (test : Test) (rest : List TokenValue)
-    → null_test tokens ≡ Ok (test, rest) → IsTestOf compared test
-unfolding null_test
-null_test_is compared tokens test rest e = which (if_read (next_is (is_word (codes "not")) tokens) _ _ test rest e)
+method_is : (unique : Bool) (tokens : List TokenValue) (kind_of : Method) (rest : List TokenValue) → method_rule unique tokens ≡ Ok (kind_of, rest)
+    → kind_of ≢ method.BTree → unique ≡ false
+unfolding method_rule
+method_is unique tokens kind_of rest e other = which (if_read (next_is (is_word (codes "using")) tokens) _ _ kind_of rest e)
   where
-    which : ((word (codes "null") >>= λ _. done NotNull) (drop 1 tokens) ≡ Ok (test, rest)) ⊎ ((word (codes "null") >>= λ _. done IsNull) tokens ≡ Ok (test, rest))
-        → IsTestOf compared test
+    which : (meaning (token_as word_in) (known_method unique) (drop 1 tokens) ≡ Ok (kind_of, rest)) ⊎ (done method.BTree tokens ≡ Ok (kind_of, rest))
+        → unique ≡ false
     which (inl e) =
-        let a = both_read (word (codes "null") (drop 1 tokens)) _ test rest e in
-        subst (IsTestOf compared) (same_value NotNull test a.1 rest a.3) tt
-    which (inr e) =
-        let a = both_read (word (codes "null") tokens) _ test rest e in
-        subst (IsTestOf compared) (same_value IsNull test a.1 rest a.3) tt
+        let meant = meant_of (token_as word_in) (known_method unique) (drop 1 tokens) rest kind_of e in
+        known_method_is unique meant.0 kind_of meant.1 other
+    which (inr e) = absurd (other (sym (same_value method.BTree kind_of tokens rest e)))
 
-test_is : (kind : ColType) (tokens : List TokenValue) (test : Test) (rest : List TokenValue)
-    → test_rule kind tokens ≡ Ok (test, rest) → IsTestOf (facts_of kind).compared test
-test_is kind tokens test rest e = which (if_read (next_is (is_word (codes "is")) tokens) _ _ test rest e)
-  where
-    which : (null_test (drop 1 tokens) ≡ Ok (test, rest)) ⊎ (comparison (facts_of kind).compared tokens ≡ Ok (test, rest))
-        → IsTestOf (facts_of kind).compared test
-    which (inl e) = null_test_is (facts_of kind).compared (drop 1 tokens) test rest e
-    which (inr e) = comparison_is (facts_of kind).compared tokens test rest e
-
-known_column_is : (table : Table) (called : List ℕ) (found : Found) → known_column table called ≡ Ok found → Stands table.columns 1 found
-known_column_is table called found e = which (column_named table.columns called) refl e
-  where
-    which : (o : Option Found) → column_named table.columns called ≡ o → option_map_or Ok o (Err UnknownName) ≡ Ok found → Stands table.columns 1 found
-    which None is e = cc
-    which (Some one) is e =
-        let same : one ≡ found = cc in
-        subst (Stands table.columns 1) same (found_stands 1 table.columns called one is)
-
-stands_condition : (table : Table) (found : Found) (test : Test) → Stands table.columns 1 found → IsTestOf (facts_of found.kind).compared test
-    → IsConditionOn table (record { column = found.number; test = test })
-stands_condition table found test stands fits =
-    let n = stands.number_is in
-    record {
-      column = stands.column;
-      above = omega (arith, n);
-      found = subst (λ place. slice_get table.columns place ≡ Some stands.column) (let e : stands.place ≡ found.number - 1 = omega (arith, n) in e) stands.at;
-      fits = subst (λ kind. IsTestOf (facts_of kind).compared test) (sym stands.kind) fits;
-    }
-
-condition_leads : (table : Table) (conditions : List Cond) (tokens : List TokenValue) (after : List Cond) (rest : List TokenValue)
-    → All (IsConditionOn table) conditions → condition table conditions tokens ≡ Ok (after, rest) → All (IsConditionOn table) after
-unfolding condition
-condition_leads table conditions tokens after rest are e =
-    let a = both_read (meaning name (known_column table) tokens) _ after rest e in
-    let b = both_read (test_rule a.0.kind a.1) _ after rest a.3 in
-    let meant = meant_of name (known_column table) tokens a.1 a.0 a.2 in
-    let one : Cond = record { column = a.0.number; test = b.0 } in
-    subst (λ conditions. All (IsConditionOn table) conditions) (same_value _ after b.1 rest b.3)
-    (All-push (IsConditionOn table) conditions one are
-    (stands_condition table a.0 b.0 (known_column_is table meant.0 a.0 meant.1) (test_is a.0.kind a.1 b.0 b.1 b.2)))
-
--- an item in parentheses
-abbrev enclosed : ℕ → Table → List Cond → Rule (List Cond)
-enclosed depth table conditions =
-    separated (is_word (codes "and")) (item depth table) conditions >>= λ conditions. (sign RightParen >>= λ _. done conditions)
-
-item_leads : (depth : ℕ) (table : Table) (conditions : List Cond) (tokens : List TokenValue) (after : List Cond) (rest : List TokenValue)
-    → All (IsConditionOn table) conditions → item depth table conditions tokens ≡ Ok (after, rest) → All (IsConditionOn table) after
-item_leads zero table conditions tokens after rest are e = condition_leads table conditions tokens after rest are e
-item_leads (suc depth) table conditions tokens after rest are e =
-    which (item_leads depth table) (if_read (next_is (is_sign LeftParen) tokens) _ _ after rest e)
-  where
-    which : ((s : List Cond) (tokens : List TokenValue) (after : List Cond) (rest : List TokenValue) → All (IsConditionOn table) s → item depth table s tokens ≡ Ok (after, rest) → All (IsConditionOn table) after)
-        → (enclosed depth table conditions (drop 1 tokens) ≡ Ok (after, rest)) ⊎ (condition table conditions tokens ≡ Ok (after, rest)) → All (IsConditionOn table) after
-    which leads (inl e) =
-        let a = both_read (separated (is_word (codes "and")) (item depth table) conditions (drop 1 tokens)) _ after rest e in
-        let b = both_read (sign RightParen a.1) _ after rest a.3 in
-        subst (λ conditions. All (IsConditionOn table) conditions) (same_value a.0 after b.1 rest b.3)
-        (separated_leads (λ s. All (IsConditionOn table) s) (λ s. All (IsConditionOn table) s) (is_word (codes "and")) (item depth table)
-        leads (λ s is. is) conditions (drop 1 tokens) a.0 a.1 are a.2)
-    which leads (inr e) = condition_leads table conditions tokens after rest are e
-
-filter_is : (table : Table) (tokens : List TokenValue) (conditions : List Cond) (rest : List TokenValue)
-    → filter_rule table tokens ≡ Ok (conditions, rest) → All (IsConditionOn table) conditions
-unfolding filter_rule conjunction
-filter_is table tokens conditions rest e = which (if_read (next_is (is_word (codes "where")) tokens) _ _ conditions rest e)
-  where
-    which : (separated (is_word (codes "and")) (item 16 table) [] (drop 1 tokens) ≡ Ok (conditions, rest)) ⊎ (done [] tokens ≡ Ok (conditions, rest)) → All (IsConditionOn table) conditions
-    which (inl e) =
-        separated_leads (λ s. All (IsConditionOn table) s) (λ s. All (IsConditionOn table) s) (is_word (codes "and")) (item 16 table)
-        (item_leads 16 table) (λ s is. is) [] (drop 1 tokens) conditions rest (All-nil _) e
-    which (inr e) = subst (λ s. All (IsConditionOn table) s) (same_value [] conditions tokens rest e) (All-nil _)
+head_is : (table : Table) (tokens : List TokenValue) (head : Head) (rest : List TokenValue)
+    → index_head table tokens ≡ Ok (head, rest) → head.method ≢ method.BTree → head.unique ≡ false
+unfolding index_head
+head_is table tokens head rest e =
+    let a = both_read (word (codes "create") tokens) _ head rest e in
+    let b = both_read (uniqueness a.1) _ head rest a.3 in
+    let c = both_read (word (codes "index") b.1) _ head rest b.3 in
+    let d = both_read (name c.1) _ head rest c.3 in
+    let f = both_read (word (codes "on") d.1) _ head rest d.3 in
+    let g = both_read (qualified (meaning name (this_table table)) f.1) _ head rest f.3 in
+    let h = both_read (method_rule b.0 g.1) _ head rest g.3 in
+    subst (λ (head : Head). head.method ≢ method.BTree → head.unique ≡ false) (same_value _ head h.1 rest h.3) (method_is b.0 g.1 h.0 h.1 h.2)
 
 -- the statement of an index describes an index over the table
 pub index_is : (table : Table) (tokens : List TokenValue) (spec : IndexSpec) (rest : List TokenValue)
@@ -444,15 +391,23 @@ index_is table tokens spec rest e =
     let f = both_read (options a.0.method d.1) _ spec rest d.3 in
     let g = both_read (filter_rule table f.1) _ spec rest f.3 in
     let h = both_read (end_of_statement g.1) _ spec rest g.3 in
+    let head = head_is table tokens a.0 a.1 a.2 in
     let keys = key_list_is table a.0.method a.1 b.0 b.1 b.2 in
     let columns = includes_is table a.0.method (length b.0) b.1 c.0 c.1 keys.1.most c.2 in
     let settings = options_is a.0.method d.1 f.0 f.1 f.2 in
     subst (IsIndexOver table) (same_value _ spec h.1 rest h.3) (record {
       keys = keys.1.each;
-      includes = columns.0;
+      includes = columns.each;
       some = keys.0;
-      most = columns.1;
+      most = columns.most;
+      unique = head;
+      plain = keys.1.plain;
+      no_includes = columns.none;
+      distinct = distinct_is a.0.unique c.1 d.0 d.1 d.2;
       fillfactor = settings.fillfactor;
       pages_per_range = settings.pages_per_range;
+      default_fillfactor = settings.default_fillfactor;
+      default_deduplicate = settings.default_deduplicate;
+      default_pages = settings.default_pages;
       filter = filter_is table f.1 g.0 g.1 g.2;
     })

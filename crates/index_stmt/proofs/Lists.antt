@@ -1,5 +1,6 @@
 -- Which rules take a token where they read something, and lists of items that do.
-use Rattle.std.proofs.Common.{◌≡◌, ℕ, zero, suc, ◌<◌, ◌≤◌, Bool, true, false, cond, List, length, drop, Result, Ok, Err, refl, ap, ◌∙◌, sym, arith, length-drop}
+use Rattle.std.proofs.Common.{◌≡◌, ℕ, zero, suc, ◌<◌, ◌≤◌, Bool, true, false, cond, List, length, drop, Result, Ok, Err, refl, ap, ◌∙◌, sym, arith, length-drop, All}
+use Rattle.stmt_token.specs.Spelling.{CanBeQuoted}
 use Rattle.stmt_token.specs.Tokens.{TokenValue}
 use Rattle.index_stmt.specs.declared.fault.StmtCause.{StmtCause}
 use Rattle.index_stmt.specs.declared.fault.Stop.{Stop}
@@ -7,13 +8,20 @@ use Rattle.index_stmt.specs.declared.fault.Stop.TheVariants as stops
 use Rattle.index_stmt.specs.Pass.{Ahead, Reads, ReadsFreely}
 use Rattle.index_stmt.specs.Rule.{Read, Rule, go_on, ◌>>=◌, done, if_next, listed, next_is, separated}
 
+-- where a rule reads something, tokens are left whose names can be quoted if those of all can
+abbrev pub Leaves : {A : Type 0} → Rule A → Type 0
+Leaves {A} rule =
+    (tokens : List TokenValue) (value : A) (rest : List TokenValue) → rule tokens ≡ Ok (value, rest) → All CanBeQuoted tokens → All CanBeQuoted rest
+
 -- fewer tokens are left where the rule reads something
 pub record Takes {A : Type 0} (rule : Rule A) : Type 0 where
   pub fewer : (tokens : List TokenValue) (value : A) (rest : List TokenValue) → rule tokens ≡ Ok (value, rest) → length rest < length tokens
+  pub leaves : Leaves rule
 
 -- no more tokens are left
 pub record Keeps {A : Type 0} (rule : Rule A) : Type 0 where
   pub no_more : (tokens : List TokenValue) (value : A) (rest : List TokenValue) → rule tokens ≡ Ok (value, rest) → length rest ≤ length tokens
+  pub leaves : Leaves rule
 
 -- where two rules in a row read something, the first one did
 pub both_read : {A B : Type 0} (read : Read A) (next : A → Rule B) (value : B) (rest : List TokenValue) → go_on read next ≡ Ok (value, rest)
@@ -28,6 +36,9 @@ takes_first rule next takes keeps = record {
       let less = takes.fewer tokens both.0 both.1 both.2 in
       let most = (keeps both.0).no_more both.1 value rest both.3 in
       omega (arith, less, most);
+  leaves = λ tokens value rest e each.
+      let both = both_read (rule tokens) next value rest e in
+      (keeps both.0).leaves both.1 value rest both.3 (takes.leaves tokens both.0 both.1 both.2 each);
 }
 
 pub keeps_both : {A B : Type 0} (rule : Rule A) (next : A → Rule B) → Keeps rule → ((x : A) → Keeps (next x)) → Keeps (rule >>= next)
@@ -37,10 +48,16 @@ keeps_both rule next first keeps = record {
       let less = first.no_more tokens both.0 both.1 both.2 in
       let most = (keeps both.0).no_more both.1 value rest both.3 in
       omega (arith, less, most);
+  leaves = λ tokens value rest e each.
+      let both = both_read (rule tokens) next value rest e in
+      (keeps both.0).leaves both.1 value rest both.3 (first.leaves tokens both.0 both.1 both.2 each);
 }
 
 pub takes_keeps : {A : Type 0} (rule : Rule A) → Takes rule → Keeps rule
-takes_keeps rule takes = record { no_more = λ tokens value rest e. let less = takes.fewer tokens value rest e in omega (arith, less) }
+takes_keeps rule takes = record {
+  no_more = λ tokens value rest e. let less = takes.fewer tokens value rest e in omega (arith, less);
+  leaves = takes.leaves;
+}
 
 -- items take tokens, and each list of more than enough of them is the same
 enough_after : {S : Type 0} (between : TokenValue → Bool) (more less : S → Rule S) (after : S) (rest : List TokenValue)

@@ -3,22 +3,24 @@ use Rattle.std.proofs.Common.{◌≡◌, ◌≢◌, ℕ, zero, suc, ◌<◌, ◌
 use Rattle.std.proofs.Math.ListN.{get_or-append}
 use Rattle.std.proofs.Math.Seq.{get_or-append_seam}
 use Rattle.std.proofs.lemmas.Bool.Decides.{nat_tests}
+use Rattle.std.proofs.lemmas.List.Elements.{All-drop}
 use Rattle.std.proofs.lemmas.Slice.Eq.{bytes_eq-Decides}
 use Rattle.std.specs.Str.{bytes_eq}
 use borrow.Author.Count.{below_more}
 use Rattle.stmt_token.specs.declared.sign.Sign.TheVariants.{Comma, LeftParen, RightParen}
+use Rattle.stmt_token.specs.Spelling.{CanBeQuoted}
 use Rattle.stmt_token.specs.Tokens.{TokenValue}
 use Rattle.opclass.specs.declared.table.Column.{Column}
 use Rattle.opclass.specs.declared.table.Table.{Table}
 use Rattle.index_stmt.specs.declared.fault.StmtCause.TheVariants.{NotAllowed, Repeated}
 use Rattle.index_stmt.specs.Columns.{column_from, column_named}
-use Rattle.index_stmt.specs.Meaning.{IsTable}
+use Rattle.opclass.specs.Indexes.{IsTable}
 use Rattle.index_stmt.specs.Rule.{Read, Rule, done, if_next, is_sign, judged, listed, meaning, next_is, separated, sign, word}
 use Rattle.index_stmt.specs.Names.{name, qualified}
 use Rattle.index_stmt.specs.Columns.{collation}
 use Rattle.index_stmt.specs.TypeNames.{type_name}
 use Rattle.index_stmt.specs.TableStatement.{column, end_of_statement, new_name, nullness, table_statement}
-use Rattle.index_stmt.proofs.Lists.{both_read}
+use Rattle.index_stmt.proofs.Lists.{Takes, both_read}
 
 -- the values of two readings that are one
 pub same_value : {A : Type 0} (x y : A) (s t : List TokenValue) → ◌≡◌ {A = Read A} (Ok (x, s)) (Ok (y, t)) → x ≡ y
@@ -36,18 +38,18 @@ list_ends Q between more first after mid rest q on e = ends (next_is between mid
     ends true e = on e
     ends false e = subst Q (same_value first after mid rest e) q
 
--- where each item leads from P to Q, a list of them does
-pub listed_leads : {S : Type 0} (P Q : S → Type 0) (between : TokenValue → Bool) (item : S → Rule S)
-    → ((s : S) (tokens : List TokenValue) (after : S) (rest : List TokenValue) → P s → item s tokens ≡ Ok (after, rest) → Q after)
-    → ((s : S) → Q s → P s)
-    → (more : ℕ) (before : S) (tokens : List TokenValue) (after : S) (rest : List TokenValue) → P before
+-- where each item leads from P to Q, and from tokens with T to such, a list of them does
+listed_leads : {S : Type 0} (P Q : S → Type 0) (T : List TokenValue → Type 0) (between : TokenValue → Bool) (item : S → Rule S)
+    → ((s : S) (tokens : List TokenValue) (after : S) (rest : List TokenValue) → P s → T tokens → item s tokens ≡ Ok (after, rest) → Q after × T rest)
+    → ((s : S) → Q s → P s) → ((tokens : List TokenValue) → T tokens → T (drop 1 tokens))
+    → (more : ℕ) (before : S) (tokens : List TokenValue) (after : S) (rest : List TokenValue) → P before → T tokens
     → listed more between item before tokens ≡ Ok (after, rest) → Q after
-listed_leads P Q between item step weaker zero before tokens after rest p e = step before tokens after rest p e
-listed_leads P Q between item step weaker (suc more) before tokens after rest p e =
+listed_leads P Q T between item step weaker behind zero before tokens after rest p t e = (step before tokens after rest p t e).0
+listed_leads P Q T between item step weaker behind (suc more) before tokens after rest p t e =
     let both = both_read (item before tokens) _ after rest e in
-    let q = step before tokens both.0 both.1 p both.2 in
-    list_ends Q between (listed more between item) both.0 after both.1 rest q
-    (λ on. listed_leads P Q between item step weaker more both.0 (drop 1 both.1) after rest (weaker both.0 q) on) both.3
+    let led = step before tokens both.0 both.1 p t both.2 in
+    list_ends Q between (listed more between item) both.0 after both.1 rest led.0
+    (λ on. listed_leads P Q T between item step weaker behind more both.0 (drop 1 both.1) after rest (weaker both.0 led.0) (behind both.1 led.1) on) both.3
 
 pub separated_leads : {S : Type 0} (P Q : S → Type 0) (between : TokenValue → Bool) (item : S → Rule S)
     → ((s : S) (tokens : List TokenValue) (after : S) (rest : List TokenValue) → P s → item s tokens ≡ Ok (after, rest) → Q after)
@@ -56,7 +58,20 @@ pub separated_leads : {S : Type 0} (P Q : S → Type 0) (between : TokenValue �
     → separated between item before tokens ≡ Ok (after, rest) → Q after
 unfolding separated
 separated_leads P Q between item step weaker before tokens after rest p e =
-    listed_leads P Q between item step weaker (length tokens) before tokens after rest p e
+    listed_leads P Q (λ tokens. Unit {0}) between item (λ s tokens after rest p t e. (step s tokens after rest p e, tt)) weaker (λ tokens t. tt)
+    (length tokens) before tokens after rest p tt e
+
+-- the same of items that a rule reads from tokens whose names can be quoted
+pub separated_named : {S : Type 0} (P : S → Type 0) (between : TokenValue → Bool) (item : S → Rule S) → ((s : S) → Takes (item s))
+    → ((s : S) (tokens : List TokenValue) (after : S) (rest : List TokenValue) → P s → All CanBeQuoted tokens → item s tokens ≡ Ok (after, rest) → P after)
+    → (before : S) (tokens : List TokenValue) (after : S) (rest : List TokenValue) → P before → All CanBeQuoted tokens
+    → separated between item before tokens ≡ Ok (after, rest) → P after
+unfolding separated
+separated_named P between item takes step before tokens after rest p each e =
+    listed_leads P P (λ tokens. All CanBeQuoted tokens) between item
+    (λ s tokens after rest p each e. (step s tokens after rest p each e, (takes s).leaves tokens after rest e each)) (λ s p. p)
+    (λ tokens each. All-drop CanBeQuoted 1 tokens each)
+    (length tokens) before tokens after rest p each e
 
 -- each pair of a list and of one more item
 pub pairs_push : {X : Type 0} (R : X → X → Type 0) (xs : List X) (x : X) → AllPairs R xs → All (λ a. R a x) xs → AllPairs R (xs ++ x ∷ [])
@@ -90,7 +105,7 @@ pub record AreColumns (columns : List Column) : Type 0 where
   pub differ : AllPairs (λ a b. a.name ≢ b.name) columns
 
 -- a name that is let through is new, and there is room for it
-let_through : (found : Bool) (room : Bool) (name meant : List ℕ) (begun tokens rest : List TokenValue)
+pub let_through : (found : Bool) (room : Bool) (name meant : List ℕ) (begun tokens rest : List TokenValue)
     → judged (cond found (Err Repeated) (cond room (Ok name) (Err NotAllowed))) begun tokens ≡ Ok (meant, rest)
     → (found ≡ false) × (room ≡ true) × (name ≡ meant)
 let_through true room name meant begun tokens rest e = cc

@@ -1,6 +1,8 @@
 -- Which rules take a token where they read something.
-use Rattle.std.proofs.Common.{◌≡◌, ℕ, zero, suc, ◌<◌, ◌≤◌, Bool, true, false, cond, List, [], ◌∷◌, length, drop, Option, Some, None, Result, Ok, Err, ap, arith, length-drop, ◌⊎◌, inl, inr, codes, neg_ℤ, pos}
+use Rattle.std.proofs.Common.{◌≡◌, ℕ, zero, suc, ◌<◌, ◌≤◌, Bool, true, false, cond, List, [], ◌∷◌, length, drop, Option, Some, None, Result, Ok, Err, ap, subst, arith, length-drop, All, ◌⊎◌, inl, inr, codes, neg_ℤ, pos}
+use Rattle.std.proofs.lemmas.List.Elements.{All-drop}
 use Rattle.std.specs.Option.{option_map_or}
+use Rattle.stmt_token.specs.Spelling.{CanBeQuoted}
 use Rattle.stmt_token.specs.Tokens.{TokenValue}
 use Rattle.stmt_token.specs.declared.sign.Sign.{Sign}
 use Rattle.stmt_token.specs.declared.sign.Sign.TheVariants.{Dot, Equal, RightBracket, RightParen}
@@ -26,7 +28,7 @@ use Rattle.index_stmt.specs.TableStatement.{column, nullness}
 use Rattle.index_stmt.specs.Options.{option}
 use Rattle.index_stmt.specs.IndexStatement.{direction, included, key, nulls_order}
 use Rattle.index_stmt.specs.Conditions.{cast, comparison, condition, item, literal, null_test}
-use Rattle.index_stmt.proofs.Lists.{Takes, Keeps, both_read, takes_first, keeps_both, takes_keeps}
+use Rattle.index_stmt.proofs.Lists.{Takes, Keeps, Leaves, both_read, takes_first, keeps_both, takes_keeps}
 
 -- what is left of two readings that are one
 pub same_rest : {A : Type 0} (x y : A) (s t : List TokenValue) → ◌≡◌ {A = Read A} (Ok (x, s)) (Ok (y, t)) → s ≡ t
@@ -34,8 +36,18 @@ same_rest {A} x y s t e =
     let p : ◌≡◌ {A = A × List TokenValue} (x, s) (y, t) = cc in
     ap (λ (r : A × List TokenValue). r.1) p
 
+-- tokens that are left, and all but the first of them
+pub left : {A : Type 0} (x y : A) (s t : List TokenValue) → ◌≡◌ {A = Read A} (Ok (x, s)) (Ok (y, t)) → All CanBeQuoted s → All CanBeQuoted t
+left x y s t e each = subst (λ tokens. All CanBeQuoted tokens) (same_rest x y s t e) each
+
+behind_first : (tokens : List TokenValue) → All CanBeQuoted tokens → All CanBeQuoted (drop 1 tokens)
+behind_first tokens each = All-drop CanBeQuoted 1 tokens each
+
 pub done_keeps : {A : Type 0} (value : A) → Keeps (done value)
-done_keeps value = record { no_more = λ tokens read rest e. let n = ap length (same_rest value read tokens rest e) in omega (arith, n) }
+done_keeps value = record {
+  no_more = λ tokens read rest e. let n = ap length (same_rest value read tokens rest e) in omega (arith, n);
+  leaves = λ tokens read rest e each. left value read tokens rest e each;
+}
 
 pub if_read : {A : Type 0} (b : Bool) (x y : Read A) (value : A) (rest : List TokenValue) → cond b x y ≡ Ok (value, rest)
     → (x ≡ Ok (value, rest)) ⊎ (y ≡ Ok (value, rest))
@@ -44,8 +56,18 @@ if_read false x y value rest e = inr e
 
 -- a test that isn't passed leaves an error, so what was read is behind a token
 pub expected_takes : (test : TokenValue → Bool) → Takes (expected test)
-expected_takes test = record { fewer = λ tokens value rest e. expected_fewer tokens value rest e }
+expected_takes test = record {
+  fewer = λ tokens value rest e. expected_fewer tokens value rest e;
+  leaves = λ tokens value rest e each. expected_leaves tokens value rest e each;
+}
   where
+    expected_leaves : Leaves (expected test)
+    expected_leaves tokens value rest e each = passed (next_is test tokens) e
+      where
+        passed : (b : Bool) → cond b (Ok (tt, drop 1 tokens)) (other_token tokens) ≡ Ok (value, rest) → All CanBeQuoted rest
+        passed true e = left tt value (drop 1 tokens) rest e (behind_first tokens each)
+        passed false e = cc
+
     expected_fewer : (tokens : List TokenValue) (value : Unit {0}) (rest : List TokenValue) → expected test tokens ≡ Ok (value, rest) → length rest < length tokens
     expected_fewer [] value rest e = cc
     expected_fewer (token ∷ tokens) value rest e = passed (test token) e
@@ -55,8 +77,16 @@ expected_takes test = record { fewer = λ tokens value rest e. expected_fewer to
         passed false e = cc
 
 pub token_as_takes : {A : Type 0} (view : TokenValue → Option A) → Takes (token_as view)
-token_as_takes {A} view = record { fewer = as_fewer }
+token_as_takes {A} view = record { fewer = as_fewer; leaves = as_leaves }
   where
+    as_leaves : Leaves (token_as view)
+    as_leaves [] value rest e each = cc
+    as_leaves (token ∷ tokens) value rest e each = passed (view token) e
+      where
+        passed : (found : Option A) → option_map_or (λ found. Ok (found, tokens)) found (other_token (token ∷ tokens)) ≡ Ok (value, rest) → All CanBeQuoted rest
+        passed (Some found) e = left found value tokens rest e (behind_first (token ∷ tokens) each)
+        passed None e = cc
+
     as_fewer : (tokens : List TokenValue) (value : A) (rest : List TokenValue) → token_as view tokens ≡ Ok (value, rest) → length rest < length tokens
     as_fewer [] value rest e = cc
     as_fewer (token ∷ tokens) value rest e = passed (view token) e
@@ -68,8 +98,13 @@ token_as_takes {A} view = record { fewer = as_fewer }
 pub if_next_keeps : {A : Type 0} (test : TokenValue → Bool) (begun otherwise : Rule A) → Keeps begun → Keeps otherwise → Keeps (if_next test begun otherwise)
 if_next_keeps {A} test begun otherwise first second = record {
   no_more = λ tokens value rest e. either tokens value rest (if_read (next_is test tokens) _ _ value rest e);
+  leaves = λ tokens value rest e each. leaving tokens value rest each (if_read (next_is test tokens) _ _ value rest e);
 }
   where
+    leaving : (tokens : List TokenValue) (value : A) (rest : List TokenValue) → All CanBeQuoted tokens → (begun (drop 1 tokens) ≡ Ok (value, rest)) ⊎ (otherwise tokens ≡ Ok (value, rest)) → All CanBeQuoted rest
+    leaving tokens value rest each (inl e) = first.leaves (drop 1 tokens) value rest e (behind_first tokens each)
+    leaving tokens value rest each (inr e) = second.leaves tokens value rest e each
+
     either : (tokens : List TokenValue) (value : A) (rest : List TokenValue) → (begun (drop 1 tokens) ≡ Ok (value, rest)) ⊎ (otherwise tokens ≡ Ok (value, rest)) → length rest ≤ length tokens
     either tokens value rest (inl e) = let n = first.no_more (drop 1 tokens) value rest e in let d = length-drop 1 tokens in omega (arith, n, d)
     either tokens value rest (inr e) = second.no_more tokens value rest e
@@ -78,8 +113,13 @@ pub clause_keeps : {A : Type 0} (test : TokenValue → Bool) (allowed : Bool) (b
 clause_keeps test true begun otherwise first second = if_next_keeps test begun otherwise first second
 clause_keeps {A} test false begun otherwise first second = record {
   no_more = λ tokens value rest e. either tokens value rest (if_read (next_is test tokens) _ _ value rest e);
+  leaves = λ tokens value rest e each. leaving tokens value rest each (if_read (next_is test tokens) _ _ value rest e);
 }
   where
+    leaving : (tokens : List TokenValue) (value : A) (rest : List TokenValue) → All CanBeQuoted tokens → (◌≡◌ {A = Read A} (Err (NotAllowed, tokens)) (Ok (value, rest))) ⊎ (otherwise tokens ≡ Ok (value, rest)) → All CanBeQuoted rest
+    leaving tokens value rest each (inl e) = cc
+    leaving tokens value rest each (inr e) = second.leaves tokens value rest e each
+
     either : (tokens : List TokenValue) (value : A) (rest : List TokenValue) → (◌≡◌ {A = Read A} (Err (NotAllowed, tokens)) (Ok (value, rest))) ⊎ (otherwise tokens ≡ Ok (value, rest)) → length rest ≤ length tokens
     either tokens value rest (inl e) = cc
     either tokens value rest (inr e) = second.no_more tokens value rest e
@@ -91,6 +131,9 @@ meaning_takes {A} {B} rule judge takes = record {
       let less = takes.fewer tokens both.0 both.1 both.2 in
       let n = ap length (same_tokens (judge both.0) tokens both.1 value rest both.3) in
       omega (arith, less, n);
+  leaves = λ tokens value rest e each.
+      let both = both_read (rule tokens) (λ read. judged (judge read) tokens) value rest e in
+      subst (λ tokens. All CanBeQuoted tokens) (same_tokens (judge both.0) tokens both.1 value rest both.3) (takes.leaves tokens both.0 both.1 both.2 each);
 }
   where
     same_tokens : (r : Result B StmtCause) (begun tokens : List TokenValue) (value : B) (rest : List TokenValue) → judged r begun tokens ≡ Ok (value, rest) → tokens ≡ rest
@@ -179,8 +222,13 @@ pub type_name_keeps : Keeps type_name
 unfolding type_name
 type_name_keeps = record {
   no_more = λ tokens value rest e. either tokens value rest (if_read (next_is begins_type tokens) _ _ value rest e);
+  leaves = λ tokens value rest e each. leaving tokens value rest each (if_read (next_is begins_type tokens) _ _ value rest e);
 }
   where
+    leaving : (tokens : List TokenValue) (value : ColType) (rest : List TokenValue) → All CanBeQuoted tokens → (halfway tokens (type_spelling tokens) ≡ Ok (value, rest)) ⊎ (other_token tokens ≡ Ok (value, rest)) → All CanBeQuoted rest
+    leaving tokens value rest each (inl e) = type_spelling_keeps.leaves tokens value rest (whole_read tokens (type_spelling tokens) value rest e) each
+    leaving tokens value rest each (inr e) = cc
+
     either : (tokens : List TokenValue) (value : ColType) (rest : List TokenValue) → (halfway tokens (type_spelling tokens) ≡ Ok (value, rest)) ⊎ (other_token tokens ≡ Ok (value, rest)) → length rest ≤ length tokens
     either tokens value rest (inl e) = type_spelling_keeps.no_more tokens value rest (whole_read tokens (type_spelling tokens) value rest e)
     either tokens value rest (inr e) = cc
@@ -247,8 +295,13 @@ condition_takes table conditions =
 if_next_takes : {A : Type 0} (test : TokenValue → Bool) (begun otherwise : Rule A) → Takes begun → Takes otherwise → Takes (if_next test begun otherwise)
 if_next_takes {A} test begun otherwise first second = record {
   fewer = λ tokens value rest e. either tokens value rest (if_read (next_is test tokens) _ _ value rest e);
+  leaves = λ tokens value rest e each. leaving tokens value rest each (if_read (next_is test tokens) _ _ value rest e);
 }
   where
+    leaving : (tokens : List TokenValue) (value : A) (rest : List TokenValue) → All CanBeQuoted tokens → (begun (drop 1 tokens) ≡ Ok (value, rest)) ⊎ (otherwise tokens ≡ Ok (value, rest)) → All CanBeQuoted rest
+    leaving tokens value rest each (inl e) = first.leaves (drop 1 tokens) value rest e (behind_first tokens each)
+    leaving tokens value rest each (inr e) = second.leaves tokens value rest e each
+
     either : (tokens : List TokenValue) (value : A) (rest : List TokenValue) → (begun (drop 1 tokens) ≡ Ok (value, rest)) ⊎ (otherwise tokens ≡ Ok (value, rest)) → length rest < length tokens
     either tokens value rest (inl e) = let n = first.fewer (drop 1 tokens) value rest e in let d = length-drop 1 tokens in omega (arith, n, d)
     either tokens value rest (inr e) = second.fewer tokens value rest e
@@ -260,7 +313,10 @@ listed_takes (suc more) between item takes before =
 
 separated_takes : {S : Type 0} (between : TokenValue → Bool) (item : S → Rule S) → ((s : S) → Takes (item s)) → (before : S) → Takes (separated between item before)
 unfolding separated
-separated_takes between item takes before = record { fewer = λ tokens. (listed_takes (length tokens) between item takes before).fewer tokens }
+separated_takes between item takes before = record {
+  fewer = λ tokens. (listed_takes (length tokens) between item takes before).fewer tokens;
+  leaves = λ tokens. (listed_takes (length tokens) between item takes before).leaves tokens;
+}
 
 pub item_takes : (depth : ℕ) (table : Table) (conditions : List Cond) → Takes (item depth table conditions)
 item_takes zero table conditions = condition_takes table conditions

@@ -9,6 +9,7 @@ use Rattle.opclass.specs.declared.table.Table.{Table}
 use Rattle.opclass.specs.declared.spec.KeyCol.{KeyCol}
 use Rattle.opclass.specs.declared.spec.IndexSpec.{IndexSpec}
 use Rattle.opclass.specs.Types.{facts_of, takes_key}
+use Rattle.opclass.specs.Indexes.{most_columns}
 use Rattle.index_stmt.specs.declared.fault.StmtCause.{StmtCause}
 use Rattle.index_stmt.specs.declared.fault.StmtCause.TheVariants.{UnknownName, NotAllowed}
 use Rattle.index_stmt.specs.Rule.{Rule, ◌>>=◌, ◌>>◌, clause, done, if_next, is_sign, is_word, meaning, separated, sign, token_as, word}
@@ -23,11 +24,6 @@ use Rattle.index_stmt.specs.TableStatement.{end_of_statement}
 abbrev pub is_btree : Method → Bool
 is_btree method.BTree = true
 is_btree other = false
-
--- the columns that an index may have, INCLUDE columns among them
-abbrev pub most_columns : Method → ℕ
-most_columns method.Gin = 1
-most_columns other = 32
 
 -- a column of the index, where it has so many already: it is the table's, its type is one that the method takes, and
 -- there is room for it

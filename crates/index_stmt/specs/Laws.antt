@@ -1,13 +1,16 @@
 -- What holds of the two statements, whatever the texts are.
-use Rattle.std.specs.Prelude.{◌≡◌, ◌⊎◌, ℕ, ◌≤◌, List, length, All, Result, Ok, Err}
-use Rattle.stmt_token.specs.Spelling.{IsQuotable, printed}
+use Rattle.std.specs.Prelude.{◌≡◌, ◌⊎◌, ℕ, ◌≤◌, List, length, Result, Ok, Err}
+use Rattle.stmt_token.specs.Spelling.{printed}
 use Rattle.stmt_token.specs.Tokens.{tokens_of}
+use Rattle.opclass.specs.declared.spec.IndexSpec.{IndexSpec}
 use Rattle.opclass.specs.declared.table.Table.{Table}
 use Rattle.index_stmt.specs.declared.fault.StmtCause.{StmtCause}
 use Rattle.index_stmt.specs.declared.fault.StmtFault.{StmtFault}
 use Rattle.index_stmt.specs.Cause.{number_of_cause}
-use Rattle.index_stmt.specs.Faults.{place_before, statement_of, table_of}
-use Rattle.index_stmt.specs.Meaning.{IsTable}
+use Rattle.index_stmt.specs.Faults.{index_of, place_before, statement_of, table_of}
+use Rattle.index_stmt.specs.IndexPrinter.{index_tokens}
+use Rattle.opclass.specs.Indexes.{IsIndexOver, IsTable}
+use Rattle.index_stmt.specs.Named.{HasNames, IsNamed}
 use Rattle.index_stmt.specs.Printer.{table_tokens}
 use Rattle.index_stmt.specs.Rule.{Rule}
 
@@ -39,5 +42,12 @@ OnlyTokensCount {A} statement rule =
 -- a table whose names can be quoted, printed and read, is the table
 abbrev pub TablesArePrinted : Type 0
 TablesArePrinted =
-    (table : Table) → IsTable table → IsQuotable table.name → All (λ column. IsQuotable column.name) table.columns
-    → length (printed (table_tokens table)) ≤ 65536 → table_of (printed (table_tokens table)) ≡ Ok table
+    (table : Table) → IsTable table → HasNames table → length (printed (table_tokens table)) ≤ 65536
+    → table_of (printed (table_tokens table)) ≡ Ok table
+
+-- an index over a table, printed and read, is the index, where the names of both can be quoted
+abbrev pub IndexesArePrinted : Type 0
+IndexesArePrinted =
+    (table : Table) (spec : IndexSpec) → IsTable table → HasNames table → IsIndexOver table spec → IsNamed spec
+    → length (printed (index_tokens table spec)) ≤ 65536
+    → index_of table (printed (index_tokens table spec)) ≡ Ok spec

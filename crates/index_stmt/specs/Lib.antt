@@ -24,7 +24,9 @@ pub mod Pass
 pub mod Faults
 -- what holds of the two statements
 pub mod Laws
--- which tables and indexes the statements describe
-pub mod Meaning
+-- tables and indexes whose names a text can spell
+pub mod Named
 -- how tables are printed
 pub mod Printer
+-- how indexes are printed
+pub mod IndexPrinter

@@ -1,11 +1,21 @@
 -- Tables as they are printed: in tokens, with one spelling of each type, names quoted.
-use Rattle.std.specs.Prelude.{Bool, true, false, codes, List, [], ◌∷◌, ◌++◌}
+use Rattle.std.specs.Prelude.{codes, List, [], ◌∷◌, ◌++◌, map}
 use Rattle.stmt_token.specs.declared.sign.Sign.TheVariants.{LeftParen, RightParen, LeftBracket, RightBracket, Comma}
 use Rattle.stmt_token.specs.Tokens.{TokenValue, Word, Quoted, Sign}
 use Rattle.opclass.specs.declared.types.ColType.{ColType}
 use Rattle.opclass.specs.declared.types.ColType.TheVariants as ty
 use Rattle.opclass.specs.declared.table.Column.{Column}
 use Rattle.opclass.specs.declared.table.Table.{Table}
+
+-- items with a token between them
+abbrev pub with_between : TokenValue → List (List TokenValue) → List TokenValue
+with_between token [] = []
+with_between token (item ∷ []) = item
+with_between token (item ∷ next ∷ items) = item ++ token ∷ with_between token (next ∷ items)
+
+-- items in parentheses, with commas between them
+abbrev pub enclosed : List (List TokenValue) → List TokenValue
+enclosed items = Sign LeftParen ∷ with_between (Sign Comma) items ++ Sign RightParen ∷ []
 
 -- a type, in one of its spellings
 abbrev pub type_tokens : ColType → List TokenValue
@@ -34,26 +44,11 @@ type_tokens ty.Int4Array = Word (codes "int4") ∷ Sign LeftBracket ∷ Sign Rig
 type_tokens ty.Int8Array = Word (codes "int8") ∷ Sign LeftBracket ∷ Sign RightBracket ∷ []
 type_tokens ty.TextArray = Word (codes "text") ∷ Sign LeftBracket ∷ Sign RightBracket ∷ []
 
--- what stands behind a column: `)` behind the last one, else a comma
-abbrev pub behind_column : Bool → TokenValue
-behind_column true = Sign RightParen
-behind_column false = Sign Comma
-
--- a column, and what stands behind it
-abbrev pub column_tokens : Column → List TokenValue → List TokenValue
-column_tokens column behind = Quoted column.name ∷ (type_tokens column.kind ++ behind)
-
--- the columns behind another, and what ends them
-abbrev pub more_columns : List Column → List TokenValue
-more_columns [] = behind_column true ∷ []
-more_columns (column ∷ columns) = behind_column false ∷ column_tokens column (more_columns columns)
-
--- the columns of a table, and what ends them
-abbrev pub columns_tokens : List Column → List TokenValue
-columns_tokens [] = behind_column true ∷ []
-columns_tokens (column ∷ columns) = column_tokens column (more_columns columns)
+-- a column
+abbrev pub column_tokens : Column → List TokenValue
+column_tokens column = Quoted column.name ∷ type_tokens column.kind
 
 -- a table
 abbrev pub table_tokens : Table → List TokenValue
 table_tokens table =
-    Word (codes "create") ∷ Word (codes "table") ∷ Quoted table.name ∷ Sign LeftParen ∷ columns_tokens table.columns
+    Word (codes "create") ∷ Word (codes "table") ∷ Quoted table.name ∷ enclosed (map column_tokens table.columns)

@@ -1,8 +1,9 @@
 ghost use Rattle.std.specs.Prelude.{◌≡◌, ◌≤◌, ◌<◌, [], length, option_and_then, IfOk, OnOk};
-ghost use Rattle.index_stmt.specs.IndexStatement.{direction, distinctness, included, include_list, includes, index_column, index_head, index_statement, is_btree, key, key_list, known_method, method_named, method_rule, most_columns, nulls_order, this_table, uniqueness};
+ghost use Rattle.index_stmt.specs.IndexStatement.{direction, distinctness, included, include_list, includes, index_column, index_head, index_statement, is_btree, key, key_list, known_method, method_named, method_rule, nulls_order, this_table, uniqueness};
 ghost use Rattle.index_stmt.specs.Names.{name, qualified, word_in};
 ghost use Rattle.index_stmt.specs.Pass.{Reads, ReadsFreely, next_of};
 ghost use Rattle.index_stmt.specs.Rule.{is_sign, meaning, separated, token_as};
+ghost use Rattle.opclass.specs.Indexes.{most_columns};
 ghost use Rattle.opclass.specs.declared.types.Method.TheVariants.{BTree};
 ghost use Rattle.stmt_token.specs.declared.sign.Sign.TheVariants.{Comma};
 

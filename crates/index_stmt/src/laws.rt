@@ -1,6 +1,6 @@
 //! What holds of the two statements, whatever the texts are.
 
-ghost use Rattle.index_stmt.specs.Laws.{Comes, OnlyTokensCount, TablesArePrinted};
+ghost use Rattle.index_stmt.specs.Laws.{Comes, IndexesArePrinted, OnlyTokensCount, TablesArePrinted};
 ghost use Rattle.index_stmt.specs.IndexStatement.{index_statement};
 ghost use Rattle.index_stmt.specs.TableStatement.{table_statement};
 ghost use Rattle.index_stmt.specs.Faults.{index_of, table_of};
@@ -32,4 +32,10 @@ pub fn only_tokens_count_for_an_index()
 /// grammar has is refused.
 pub fn tables_are_printed()
     ensures { TablesArePrinted }
+{}
+
+/// An index over a table whose names can be quoted is what its printed statement is read as. So
+/// `read_index` gives each index that the rules of its meaning allow, and no other.
+pub fn indexes_are_printed()
+    ensures { IndexesArePrinted }
 {}

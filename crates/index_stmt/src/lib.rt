@@ -23,13 +23,15 @@
 //!   the place and the cause's number, or say that memory ran out.
 //! - A table that is given has 1 to 1,600 columns, no two of one name (`IsTable`). An index that is
 //!   given over it has columns of the table, of types that the method takes, options in their
-//!   ranges, and conditions that fit their columns (`IsIndexOver`).
+//!   ranges, what only other methods have as it is where nothing is said, and conditions that fit
+//!   their columns (`IsIndexOver`). The names of both can be quoted (`HasNames`, `IsNamed`).
 //! - A statement of more than 65,536 bytes is refused before all else.
 //! - A text has a table, or a fault, and never both or two of either (`a_text_is_one_table`,
 //!   `a_text_is_one_index`); only its tokens count, so that blanks and the case of words change
 //!   nothing (`only_tokens_count_for_a_table`, `only_tokens_count_for_an_index`).
-//! - No table is refused: each whose names can be quoted is what its printed statement is read as
-//!   (`tables_are_printed`).
+//! - Nothing of this is refused for another reason than the limit of bytes: each such table whose
+//!   names can be quoted is what its printed statement is read as (`tables_are_printed`), and so is
+//!   each such index over it (`indexes_are_printed`).
 //!
 //! # What is not
 //!
@@ -38,7 +40,6 @@
 //!   "C", and types that aren't in the table of types.
 //! - The schema before a table's name isn't looked at, and COLLATE, NOT NULL, NULL and casts of
 //!   literals change nothing.
-//! - That each index has a text is said of no more than tests show.
 //! - Whether memory is found isn't said. None is taken beyond what is given back.
 #![tactic(auto)]
 
@@ -59,7 +60,7 @@ mod type_name;
 
 pub use fault::{ReadStmt, StmtCause, StmtFault};
 pub use laws::{
-    a_text_is_one_index, a_text_is_one_table, only_tokens_count_for_a_table,
+    a_text_is_one_index, a_text_is_one_table, indexes_are_printed, only_tokens_count_for_a_table,
     only_tokens_count_for_an_index, tables_are_printed,
 };
 pub use read::{read_index, read_table};

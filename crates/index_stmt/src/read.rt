@@ -1,6 +1,7 @@
 ghost use Rattle.std.specs.Prelude.{◌≡◌, IfOk};
 ghost use Rattle.index_stmt.specs.Faults.{index_of, table_of};
-ghost use Rattle.index_stmt.specs.Meaning.{IsIndexOver, IsTable};
+ghost use Rattle.opclass.specs.Indexes.{IsIndexOver, IsTable};
+ghost use Rattle.index_stmt.specs.Named.{HasNames, IsNamed};
 ghost use Rattle.index_stmt.specs.Answers.{Answers, fault_at, too_long};
 
 use crate::fault::{ReadStmt, StmtCause, StmtFault, Stop};
@@ -22,6 +23,7 @@ const INDEX: u8 = 2;
 pub fn read_table(alloc: Global, text: &[u8]) -> Result<Table, ReadStmt>
     ensures read { Answers (table_of text.now) result }
     ensures table { IfOk result IsTable }
+    ensures named { IfOk result HasNames }
 {
     if text.len() > MOST_BYTES {
         return Err(too_long(TABLE));
@@ -40,6 +42,7 @@ pub fn read_index(alloc: Global, text: &[u8], table: &Table) -> Result<IndexSpec
     requires { IsTable table.now }
     ensures read { Answers (index_of table.now text.now) result }
     ensures index { IfOk result (IsIndexOver table.now) }
+    ensures named { IfOk result IsNamed }
 {
     if text.len() > MOST_BYTES {
         return Err(too_long(INDEX));

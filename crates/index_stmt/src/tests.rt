@@ -1,4 +1,4 @@
-ghost use Rattle.index_stmt.specs.Meaning.{IsTable};
+ghost use Rattle.opclass.specs.Indexes.{IsTable};
 
 use crate::{ReadStmt, read_index, read_table};
 use opclass::{ColType, Cond, IndexSpec, KeyCol, Method, Op, Table, Test};
@@ -192,6 +192,45 @@ const TYPE_FAULTS: [(&[u8], u32, u8); 14] = [
     (b"CREATE INDEX i ON t (a) WHERE b . 1", 32, 2),
 ];
 
+/// Operators, and whether they ask for more than equality.
+const OPERATORS: [(&[u8], Op, bool); 7] = [
+    (b"=", Op::Eq, false),
+    (b"<>", Op::Ne, false),
+    (b"!=", Op::Ne, false),
+    (b"<", Op::Lt, true),
+    (b"<=", Op::Le, true),
+    (b">", Op::Gt, true),
+    (b">=", Op::Ge, true),
+];
+
+/// Types, a literal, and whether they are compared with it by equality and by order.
+const COMPARISONS: [(&[u8], &[u8], bool, bool); 24] = [
+    (b"bool", b"true", true, false),
+    (b"int2", b"1", true, true),
+    (b"int4", b"1", true, true),
+    (b"int8", b"1", true, true),
+    (b"oid", b"1", true, true),
+    (b"date", b"1", false, false),
+    (b"timestamp", b"1", false, false),
+    (b"timestamptz", b"1", false, false),
+    (b"time", b"1", false, false),
+    (b"uuid", b"''", false, false),
+    (b"text", b"'1'", true, true),
+    (b"varchar", b"'1'", true, true),
+    (b"bytea", b"''", false, false),
+    (b"float4", b"1", false, false),
+    (b"float8", b"1", false, false),
+    (b"numeric", b"1", false, false),
+    (b"bpchar", b"''", false, false),
+    (b"name", b"''", false, false),
+    (b"interval", b"1", false, false),
+    (b"json", b"''", false, false),
+    (b"jsonb", b"''", false, false),
+    (b"int4[]", b"1", false, false),
+    (b"int8[]", b"1", false, false),
+    (b"text[]", b"''", false, false),
+];
+
 // The place and the cause of the fault that a reading ends with, or None where it ends otherwise.
 fn fault_of<T>(read: &Result<T, ReadStmt>) -> Option<(u8, u32, u8)> {
     match read {
@@ -365,6 +404,65 @@ fn each_method_has_its_option(rt: HostRuntime) {
     assert_eq!(rt; index_of(&rt, alloc, gin, &table).method, Method::Gin);
 }
 
+// The operator of an index's only condition.
+fn only_operator(read: &Result<IndexSpec, ReadStmt>) -> Option<Op> {
+    let Ok(index) = read else {
+        return None;
+    };
+    match index.filter.as_slice() {
+        [cond] => match &cond.test {
+            Test::Num { op, .. } | Test::Raw { op, .. } => Some(*op),
+            _ => None,
+        },
+        _ => None,
+    }
+}
+
+// The operators that a column of the second of two types is compared by; the others are refused
+// where they stand.
+fn assert_operators(
+    rt: &impl Abort,
+    alloc: Global,
+    table: &Table,
+    literal: &[u8],
+    allowed: (bool, bool),
+) -> Result<(), AllocError>
+    requires { IsTable table.now }
+{
+    for (spelling, op, ordered) in OPERATORS {
+        let text = joined(
+            alloc,
+            &[b"CREATE INDEX i ON t (k) WHERE a ", spelling, literal],
+        )?;
+        let read = read_index(alloc, &text, table);
+        if if ordered { allowed.1 } else { allowed.0 } {
+            assert_eq!(rt; only_operator(&read), Some(op));
+        } else {
+            assert_eq!(rt; fault_of(&read), Some((2, 32, 5)));
+        }
+    }
+    Ok(())
+}
+
+fn assert_comparisons(
+    rt: &impl Abort,
+    alloc: Global,
+    rows: &[(&[u8], &[u8], bool, bool)],
+) -> Result<(), AllocError> {
+    for (kind, literal, equal, ordered) in rows {
+        let text = joined(alloc, &[b"CREATE TABLE t (k int4, a ", kind, b")"])?;
+        let table = table_of(rt, alloc, &text);
+        assert_operators(rt, alloc, &table, literal, (*equal, *ordered))?;
+    }
+    Ok(())
+}
+
+#[test]
+fn a_type_has_its_operators(rt: HostRuntime) -> Result<(), Fail> {
+    assert_comparisons(&rt, rt.alloc(), &COMPARISONS)?;
+    Ok(())
+}
+
 fn is_num(test: &Test, wanted: Op, number: i64) -> bool {
     match test {
         Test::Num { op, value } => *op == wanted && *value == number,
@@ -408,6 +506,28 @@ fn sixteen_parentheses_are_open(rt: HostRuntime) -> Result<(), Fail> {
         fault_of(&read_index(alloc, &deeper, &table)),
         Some((2, 46, 2))
     );
+    Ok(())
+}
+
+// A table's statement with so many columns.
+fn wide_table(alloc: Global, count: u16) -> Result<Vec<u8>, AllocError> {
+    let mut text = Vec::new(alloc);
+    text.extend_from_slice(b"CREATE TABLE t (c0 int2")?;
+    for number in 1..count {
+        let column = format!(in alloc; ",c{number} int2")?;
+        text.extend_from_slice(column.as_bytes())?;
+    }
+    text.extend_from_slice(b")")?;
+    Ok(text)
+}
+
+#[test]
+fn a_table_has_1600_columns(rt: HostRuntime) -> Result<(), Fail> {
+    let alloc = rt.alloc();
+    let widest = wide_table(alloc, 1600)?;
+    assert_eq!(rt; table_of(&rt, alloc, &widest).columns.len(), 1600);
+    let wider = wide_table(alloc, 1601)?;
+    assert_eq!(rt; fault_of(&read_table(alloc, &wider)), Some((1, 16_506, 5)));
     Ok(())
 }
 

@@ -8,6 +8,8 @@ pub mod Filter
 pub mod Order
 -- the columns that an index needs
 pub mod Needed
+-- which tables there are, and which indexes over them
+pub mod Indexes
 -- normalised keys
 pub mod Norm
 -- what the passes over bytes keep

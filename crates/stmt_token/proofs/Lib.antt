@@ -10,3 +10,5 @@ pub mod Spelt
 pub mod Printed
 -- what is read as tokens is spelt as them
 pub mod ReadBack
+-- the names among a text's tokens can be quoted
+pub mod Names

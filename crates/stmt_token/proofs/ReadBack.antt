@@ -36,11 +36,11 @@ run_stops p (x ∷ xs) = by_first p x xs (p x) refl (run_stops p xs)
     by_first p x xs false is rest = rw is is
 
 -- how a piece of a text is spelt
-record IsSpelt (text : List ℕ) (piece : Piece) : Type 0 where
-  spelt : Spells (take piece.len text) piece.token
-  ends : Ends (take piece.len text) piece.token (drop piece.len text)
+pub record IsSpelt (text : List ℕ) (piece : Piece) : Type 0 where
+  pub spelt : Spells (take piece.len text) piece.token
+  pub ends : Ends (take piece.len text) piece.token (drop piece.len text)
 
-abbrev Good : List ℕ → Piece → Type 0
+abbrev pub Good : List ℕ → Piece → Type 0
 Good text piece = piece.token ≢ Bad → IsSpelt text piece
 
 good_bad : (text : List ℕ) → Good text (bad text)
@@ -218,7 +218,7 @@ sign_good byte (next ∷ more) = by_pair (sign_of_pair byte next) refl
     by_pair None is = short_good byte (next ∷ more) (sign_of_byte byte) refl (ap is_some is)
     by_pair (Some x) is = λ not_bad. record { spelt = is; ends = nothing_third more }
 
-piece_good : (byte : ℕ) (more : List ℕ) → Good (byte ∷ more) (token_with byte (byte ∷ more))
+pub piece_good : (byte : ℕ) (more : List ℕ) → Good (byte ∷ more) (token_with byte (byte ∷ more))
 piece_good byte more =
     good_if (byte ∷ more) (is_word_start byte) _ _
     (λ start. word_good (byte ∷ more) (prefix_len is_word_part (byte ∷ more)) refl start (grind (arith, nat_tests)))
@@ -233,7 +233,7 @@ piece_good byte more =
     the_mark : (n : ℕ) → (byte == n) ≡ true → n ≡ byte
     the_mark n is = grind (arith, nat_tests)
 
-abbrev said : Lexeme → TokenValue
+abbrev pub said : Lexeme → TokenValue
 said lexeme = lexeme.token
 
 abbrev NoneBad : List TokenValue → Type 0

@@ -3,7 +3,7 @@ use Rattle.std.specs.Prelude.{◌≡◌, ◌≢◌, ℕ, List, ◌++◌, map, Al
 use Rattle.std.specs.List.{AllPass}
 use Rattle.stmt_token.specs.Bytes.{is_blank}
 use Rattle.stmt_token.specs.Tokens.{TokenValue, Bad, tokens_of}
-use Rattle.stmt_token.specs.Spelling.{IsTextOf, Spaced, IsSpaced, spaced_text, IsToken, printed}
+use Rattle.stmt_token.specs.Spelling.{CanBeQuoted, IsTextOf, Spaced, IsSpaced, spaced_text, IsToken, printed}
 
 -- what is spelt as tokens is read as these tokens
 abbrev pub TextsAreRead : Type 0
@@ -23,3 +23,7 @@ BlanksDontCount =
 -- tokens that are printed are read again
 abbrev pub TokensArePrinted : Type 0
 TokensArePrinted = (tokens : List TokenValue) → All IsToken tokens → tokens_of (printed tokens) ≡ tokens
+
+-- the words and quoted names of a text are names that can be quoted
+abbrev pub NamesCanBeQuoted : Type 0
+NamesCanBeQuoted = (text : List ℕ) → All CanBeQuoted (tokens_of text)

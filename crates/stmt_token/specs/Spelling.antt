@@ -32,6 +32,12 @@ pub record IsQuotable (name : List ℕ) : Type 0 where
   pub some : 0 < length name
   pub size : length name ≤ longest_name
 
+-- a token that may be a name has the bytes of one
+abbrev pub CanBeQuoted : TokenValue → Type 0
+CanBeQuoted (Word word) = IsQuotable word
+CanBeQuoted (Quoted name) = IsQuotable name
+CanBeQuoted other = ⊤
+
 -- a quoted name
 pub record SpellsQuoted (bytes name : List ℕ) : Type 0 where
   pub name_is : IsQuotable name

@@ -1,6 +1,6 @@
 //! What holds of the tokens of texts, whatever the texts are.
 
-ghost use Rattle.stmt_token.specs.Laws.{BlanksDontCount, TextsAreRead, TextsAreSpelt, TokensArePrinted};
+ghost use Rattle.stmt_token.specs.Laws.{BlanksDontCount, NamesCanBeQuoted, TextsAreRead, TextsAreSpelt, TokensArePrinted};
 
 /// What is spelt as tokens is read as these tokens, and no others.
 pub fn texts_are_read()
@@ -20,4 +20,10 @@ pub fn blanks_dont_count()
 /// Tokens that are printed, with a space behind each, are read again.
 pub fn tokens_are_printed()
     ensures { TokensArePrinted }
+{}
+
+/// The words and the quoted names of a text are names that can be quoted: each of them can be
+/// printed.
+pub fn names_can_be_quoted()
+    ensures { NamesCanBeQuoted }
 {}

@@ -19,8 +19,8 @@
 //! value of a token is exact. What the grammar above may rely on beyond that stands as laws, which
 //! are functions that do nothing and whose contracts are the laws: what is spelt as tokens is read
 //! as these tokens (`texts_are_read`), and what is read is spelt so (`texts_are_spelt`); neither
-//! blanks nor the choice of a spelling count (`blanks_dont_count`); and tokens that are printed are
-//! read again (`tokens_are_printed`).
+//! blanks nor the choice of a spelling count (`blanks_dont_count`); tokens that are printed are read
+//! again (`tokens_are_printed`); and the names of a text can be printed (`names_can_be_quoted`).
 //!
 //! # What is not
 //!
@@ -39,7 +39,9 @@ mod tests;
 mod token;
 mod value;
 
-pub use laws::{blanks_dont_count, texts_are_read, texts_are_spelt, tokens_are_printed};
+pub use laws::{
+    blanks_dont_count, names_can_be_quoted, texts_are_read, texts_are_spelt, tokens_are_printed,
+};
 pub use reader::{MOST_BYTES, Reader};
 pub use sign::Sign;
 pub use token::Token;

@@ -28,6 +28,10 @@ pub fn digits_value(digits: &[u8]) -> u64
 pub fn is_lowered(word: &[u8], wanted: &[u8]) -> bool
     ensures { IsTrue result ↔ (lowered word.now ≡ wanted.now) }
 {
+    // most words that are tried have another length
+    if word.len() != wanted.len() {
+        return false;
+    }
     let mut word = word;
     let mut wanted = wanted;
     while let [byte, more @ ..] = word {
