@@ -1,5 +1,5 @@
 -- Heads by the order bytes of their records, and a step of moving one down a heap.
-use Rattle.std.proofs.Common.{◌≡◌, ℕ, ◌+◌, ◌*◌, ◌/◌, ◌<◌, ◌≤◌, Bool, true, false, List, [], ◌∷◌, ◌++◌, length, drop, refl, sym, ap, subst, ◌∙◌, arith, slice_index_or, slice_set, Ordering, Less, Equal, Greater, nat_cmp, inl, inr}
+use Rattle.std.proofs.Common.{◌≡◌, ◌≢◌, nat_lt, ℕ, ◌+◌, ◌*◌, ◌/◌, ◌<◌, ◌≤◌, Bool, true, false, List, [], ◌∷◌, ◌++◌, length, drop, refl, sym, ap, subst, ◌∙◌, arith, slice_index_or, slice_set, Ordering, Less, Equal, Greater, nat_cmp, inl, inr}
 use Rattle.std.specs.Cmp.{IsTotalOrder, IsStrictWeakOrder}
 use Rattle.std.specs.Ordering.{is_lt, on, flip_args, ordering_then}
 use Rattle.std.specs.List.{All}
@@ -9,6 +9,8 @@ use Rattle.std.specs.BinaryHeap.Sift.{IsGreaterChild, SiftsDown}
 use Rattle.std.proofs.HeapSift.{Sinking, sink_begins, sink_steps, sink_rests, sink_ends}
 use Rattle.std.proofs.lemmas.Cmp.{on_total, back_total, nat_list_cmp_total}
 use Rattle.std.proofs.lemmas.Bool.{cases_order}
+use Rattle.std.proofs.lemmas.Bool.Decides.{nat_tests}
+use Rattle.std.proofs.lemmas.Map.Lookups.{exact_unsigned}
 use Rattle.std.specs.List.{swap, slice_range, swap_remove}
 use Rattle.std.proofs.lemmas.List.{get_or_default}
 use Rattle.std.proofs.lemmas.List.Sorted.{ranks_by, IsPermutation-refl, IsPermutation-trans, All-permutation}
@@ -63,6 +65,16 @@ decided_by_head tapes a b o p q e apart =
     decides Equal s n = absurd (n refl)
     decides Greater s n = refl
 
+lt_by_cmp : (m n : ℕ) → nat_lt m n ≡ is_lt (nat_cmp m n)
+lt_by_cmp m n = grind (arith, nat_tests)
+
+-- heads that differ decide
+pub apart_by_head : (tapes : List (List RunView)) (a b : Head) → IsHead tapes a → IsHead tapes b → a.start ≢ b.start
+    → nat_lt a.start b.start ≡ is_lt (bytes_cmp (bytes_at tapes a) (bytes_at tapes b))
+apart_by_head tapes a b p q apart =
+    lt_by_cmp a.start b.start
+    ∙ decided_by_head tapes a b (nat_cmp a.start b.start) p q refl (λ e. apart (exact_unsigned a.start b.start e))
+
 module _ {X : Type 0} (lt : X → X → Bool) (o : IsStrictWeakOrder lt) where
   never-self : (x : X) → lt x x ≡ false
   never-self x = by_test (lt x x) refl
@@ -90,6 +102,19 @@ module _ {X : Type 0} (lt : X → X → Bool) (o : IsStrictWeakOrder lt) where
     | inl e ↦ rw e (o.one_way _ _ left)
     | inr n ↦ let e : k ≡ j * 2 + 1 + 1 = omega arith in rw e (never-self _)
   ]
+
+  -- the child that is counted by a test whether the right one comes first
+  pub counted_first : (xs : List X) (j : ℕ) (d : X) (count : Bool → ℕ) (test : Bool) → count true ≡ 1 → count false ≡ 0
+      → lt (slice_index_or xs (j * 2 + 1) d) (slice_index_or xs (j * 2 + 1 + 1) d) ≡ test
+      → (k : ℕ) → j * 2 + 1 ≤ k → k ≤ j * 2 + 2 → k < length xs
+      → lt (slice_index_or xs (j * 2 + 1 + count test) d) (slice_index_or xs k d) ≡ false
+  counted_first xs j d count true one none is k a b h =
+      subst (λ (n : ℕ). lt (slice_index_or xs (j * 2 + 1 + n) d) (slice_index_or xs k d) ≡ false) (sym one)
+      (right_first xs j d is k a b h)
+  counted_first xs j d count false one none is k a b h =
+      let same : j * 2 + 1 + count false ≡ j * 2 + 1 = omega (arith, none) in
+      subst (λ (n : ℕ). lt (slice_index_or xs n d) (slice_index_or xs k d) ≡ false) (sym same)
+      (left_first xs j d (λ right. is) k a b h)
 
 -- a test of two items, whatever is read where none is
 pub same_test : {X : Type 0} (test : X → X → Bool) (xs : List X) (i j : ℕ) (d e : X) (b : Bool) → i < length xs

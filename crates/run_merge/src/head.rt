@@ -3,7 +3,6 @@ ghost use Rattle.std.specs.List.{slice_range};
 ghost use Rattle.shared_tape.specs.Runs.{IsRun};
 
 use shared_tape::{Run, Tapes};
-use std::cmp::Ordering;
 
 /// Where a merge stands in a run: at a record, with the records up to an end left to give. It keeps
 /// the first 16 order bytes of that record as one number, so that most comparisons touch no record.
@@ -61,12 +60,25 @@ impl Head {
         requires other { IsHead tapes.now other.now }
         ensures { result ≡ is_behind tapes.now self.now other.now }
     {
-        match other.start.cmp(&self.start) {
-            Ordering::Equal => other
-                .order_bytes(tapes)
-                .cmp(self.order_bytes(tapes))
-                .is_lt(),
-            decided => decided.is_lt(),
+        if other.start == self.start {
+            self.is_behind_by_bytes(other, tapes)
+        } else {
+            other.start < self.start
         }
+    }
+
+    // The same where the first bytes are equal, which is seldom, so that the heap's steps stay
+    // small.
+    #[cold]
+    #[inline(never)]
+    fn is_behind_by_bytes(&self, other: &Head, tapes: &Tapes) -> bool
+        requires head { IsHead tapes.now self.now }
+        requires other { IsHead tapes.now other.now }
+        ensures { result ≡ is_behind tapes.now self.now other.now }
+    {
+        other
+            .order_bytes(tapes)
+            .cmp(self.order_bytes(tapes))
+            .is_lt()
     }
 }

@@ -69,7 +69,8 @@ fn sift_down(tapes: &Tapes, heads: &mut [Head], root: usize)
     }
 }
 
-// The child of a head that isn't behind the other one.
+// The child of a head that isn't behind the other one. Which one it is can't be foreseen, so it is
+// counted and not branched upon.
 fn first_child(tapes: &Tapes, heads: &[Head], parent: usize) -> usize
     requires each { All (IsHead tapes.now) heads.now }
     requires some { parent * 2 + 1 < length heads.now }
@@ -81,8 +82,8 @@ fn first_child(tapes: &Tapes, heads: &[Head], parent: usize) -> usize
 {
     let left = parent * 2 + 1;
     let right = left + 1;
-    if right < heads.len() && heads[left].is_behind(&heads[right], tapes) {
-        right
+    if right < heads.len() {
+        left + heads[left].is_behind(&heads[right], tapes) as usize
     } else {
         left
     }

@@ -13,7 +13,8 @@
 //! where it starts, and the first 16 bytes of its order as one number. Sorting compares these
 //! numbers and looks at bytes only where two are equal. Then the records are laid in order one
 //! behind the other, into memory that was made ready while they came, so that sorting takes none
-//! and a merge reads each run (`Run`) forwards.
+//! and a merge reads each run (`Run`) forwards. The unsorted bytes and the places stay in the
+//! buffer, which takes the next run's records into the same memory (`RunBuf::take_run`).
 //!
 //! The invariant: at each place of a run stands one record, whole, in one way to read it. Contracts
 //! see a run as its order and the list of its records, and a tape as the list of its runs; the
@@ -22,7 +23,7 @@
 //! # What it promises
 //!
 //! - A sorted run has the records that were put, as often as they were put, and none is below the
-//!   one before it.
+//!   one before it. A buffer whose run was taken is empty, in the same order.
 //! - What is taken from a run is its first record, and what is taken from a tape its first run.
 //! - A call that finds no memory leaves all as it was, and hands back what it was given. Sorting
 //!   takes no memory.

@@ -1,8 +1,8 @@
-ghost use Rattle.std.specs.Prelude.{◌≡◌, ◌+◌, ◌≤◌, [], ◌∷◌, ◌++◌, length, vec_capacity, All, IfErr, IfOk, OnErr, OnOk};
+ghost use Rattle.std.specs.Prelude.{◌≡◌, ◌+◌, ◌≤◌, ◌<◌, [], ◌∷◌, ◌++◌, length, vec_capacity, All, IfErr, IfOk, OnErr, OnOk};
 ghost use Rattle.std.specs.List.Sorted.{IsPermutation};
 ghost use Rattle.opclass.specs.Pass.{IsInFront};
 ghost use Rattle.shared_tape.specs.Pass.{AreLaid};
-ghost use Rattle.shared_tape.specs.Places.{ArePlaces, HasRecordAt, place_in, records_at, space_of, starts_of};
+ghost use Rattle.shared_tape.specs.Places.{ArePlaces, HasRecordAt, IsSoundRun, place_in, records_at, space_of, starts_of};
 ghost use Rattle.shared_tape.specs.Runs.{IsAscending, IsRun};
 ghost use Rattle.shared_tape.specs.Stored.{IsStorable, stored};
 
@@ -15,6 +15,7 @@ use opclass::SortSpec;
 use pg_bytes::Items;
 use std::alloc::{AllocError, Global};
 use std::marker::Model;
+use std::mem;
 
 /// A run that isn't sorted yet, seen as its order and the list of the records put.
 #[derive(Debug, Drop)]
@@ -23,12 +24,33 @@ pub struct RunBuf {
     /// The records' bytes as they were put.
     bytes: Vec<u8>,
     places: Vec<Place>,
-    /// Empty, with room for all records, so that the sorted run takes no memory.
-    ready: Laid,
+    ready: Ready,
+}
+
+/// What the sorted run is made of, so that it takes no memory: from the first record on its order,
+/// and room for all records.
+#[derive(Debug, Drop)]
+struct Ready {
+    pub order: SortSpec,
+    /// Empty until then.
+    pub laid: Laid,
+}
+
+impl Ready {
+    // Nothing is ready, which takes no memory.
+    fn new(alloc: Global) -> Ready
+        ensures bytes { result.laid.bytes.items ≡ [] }
+        ensures starts { result.laid.starts.items ≡ [] }
+    {
+        Ready {
+            order: Items::new(alloc),
+            laid: Laid::new(alloc),
+        }
+    }
 }
 
 impl Model for RunBuf {
-    ghost use Rattle.std.specs.Prelude.{◌≡◌, ◌≤◌, [], length, vec_capacity};
+    ghost use Rattle.std.specs.Prelude.{◌≡◌, ◌≤◌, ◌<◌, [], length, vec_capacity};
     ghost use Rattle.shared_tape.specs.Runs.{RunView};
     ghost use Rattle.shared_tape.specs.Places.{ArePlaces, records_at, starts_of};
 
@@ -41,9 +63,10 @@ impl Model for RunBuf {
 
     ghost invariant = { λ buf. record {
       places : ArePlaces buf.order buf.bytes.items buf.places.items;
-      empty : (buf.ready.bytes.items ≡ []) × (buf.ready.starts.items ≡ []);
-      room : length buf.bytes.items ≤ vec_capacity buf.ready.bytes;
-      slots : length buf.places.items ≤ vec_capacity buf.ready.starts;
+      ready : 0 < length buf.places.items → buf.ready.order ≡ buf.order;
+      empty : (buf.ready.laid.bytes.items ≡ []) × (buf.ready.laid.starts.items ≡ []);
+      room : length buf.bytes.items ≤ vec_capacity buf.ready.laid.bytes;
+      slots : length buf.places.items ≤ vec_capacity buf.ready.laid.starts;
     } };
 }
 
@@ -52,12 +75,20 @@ impl RunBuf {
     pub fn new(alloc: Global, order: &SortSpec) -> Result<RunBuf, AllocError>
         ensures { IfOk result (λ buf. buf ≡ record { order = order.now; records = [] }) }
     {
-        Ok(RunBuf {
-            order: Items::from_vec(order.as_slice().to_vec(alloc)?),
+        let order = Items::from_vec(order.as_slice().to_vec(alloc)?);
+        Ok(RunBuf::with_order(alloc, order))
+    }
+
+    /// The run of this order without records, which takes no memory.
+    pub fn with_order(alloc: Global, order: SortSpec) -> RunBuf
+        ensures { result ≡ record { order = order; records = [] } }
+    {
+        RunBuf {
+            order,
             bytes: Vec::new(alloc),
             places: Vec::new(alloc),
-            ready: Laid::new(alloc),
-        })
+            ready: Ready::new(alloc),
+        }
     }
 
     /// How many records were put.
@@ -103,44 +134,97 @@ impl RunBuf {
             order,
             bytes,
             mut places,
-            mut ready,
+            ready,
         } = self;
-        sort(&order, &bytes, &mut places);
-        lay_all(&order, &bytes, &places, &mut ready);
-        Run::of(order, ready)
+        let Ready { order: _, mut laid } = ready;
+        lay_sorted(&order, &bytes, &mut places, &mut laid);
+        Run::of(order, laid)
+    }
+
+    /// The run of the records put, of which there is one at least. It takes no memory, and leaves
+    /// the buffer empty with its room, so that the next run's records need little of their own.
+    pub fn take_run(&mut self) -> Run
+        requires some { 0 < length self.old.records }
+        ensures order { result.order ≡ self.old.order }
+        ensures records { IsPermutation self.old.records result.records }
+        ensures run { IsRun result }
+        ensures emptied { self.new ≡ record self.old { records = [] } }
+    {
+        let alloc = *self.bytes.allocator();
+        let ready = mem::replace(&mut self.ready, Ready::new(alloc));
+        let Ready { order, mut laid } = ready;
+        lay_sorted(&self.order, &self.bytes, &mut self.places, &mut laid);
+        self.bytes.clear();
+        self.places.clear();
+        Run::of(order, laid)
     }
 }
 
-// Writes a record and its place, and makes room for it in the sorted run.
+// Writes a record and its place, and makes ready what the sorted run needs for it.
 fn add(
     order: &SortSpec,
     bytes: &mut Vec<u8>,
     places: &mut Vec<Place>,
-    ready: &mut Laid,
+    ready: &mut Ready,
     row: &Record,
 ) -> Result<(), AllocError>
-    requires { IsStorable order.now row.now }
+    requires storable { IsStorable order.now row.now }
+    requires ready { 0 < length places.old.items → ready.old.order ≡ order.now }
+
     ensures bytes { OnOk result (bytes.new.items ≡ bytes.old.items ++ stored order.now row.now) }
     ensures places { OnOk result (places.new.items
         ≡ places.old.items ++ place_in bytes.new.items (length bytes.old.items) ∷ []) }
+    ensures ready { OnOk result (ready.new.order ≡ order.now) }
     ensures room { OnOk result
-        (length ready.old.bytes.items + length bytes.new.items ≤ vec_capacity ready.new.bytes) }
+        (length bytes.new.items ≤ vec_capacity ready.new.laid.bytes) }
     ensures slots { OnOk result
-        (length ready.old.starts.items + length places.new.items ≤ vec_capacity ready.new.starts) }
+        (length places.new.items ≤ vec_capacity ready.new.laid.starts) }
 
     ensures front { OnErr result (IsInFront bytes.old.items bytes.new.items) }
     ensures same_places { OnErr result (places.new.items ≡ places.old.items) }
+    ensures still_ready { OnErr result
+        (0 < length places.old.items → ready.new.order ≡ order.now) }
 
-    ensures ready_bytes { ready.new.bytes.items ≡ ready.old.bytes.items }
-    ensures ready_starts { ready.new.starts.items ≡ ready.old.starts.items }
-    ensures more_room { vec_capacity ready.old.bytes ≤ vec_capacity ready.new.bytes }
-    ensures more_slots { vec_capacity ready.old.starts ≤ vec_capacity ready.new.starts }
+    ensures ready_bytes { ready.new.laid.bytes.items ≡ ready.old.laid.bytes.items }
+    ensures ready_starts { ready.new.laid.starts.items ≡ ready.old.laid.starts.items }
+    ensures more_room { vec_capacity ready.old.laid.bytes ≤ vec_capacity ready.new.laid.bytes }
+    ensures more_slots { vec_capacity ready.old.laid.starts ≤ vec_capacity ready.new.laid.starts }
 {
     let start = bytes.len();
     put_stored(bytes, order, row)?;
-    make_room(ready, bytes.len(), places.len() + 1)?;
-    places.push(Place::at(bytes, start))?;
+    places.reserve(1)?;
+    begin(order, places, ready)?;
+    make_room(&mut ready.laid, bytes.capacity(), places.capacity())?;
+    places.push_reserved(Place::at(bytes, start));
     Ok(())
+}
+
+// Copies the order for the run that its first record begins.
+fn begin(order: &SortSpec, places: &Vec<Place>, ready: &mut Ready) -> Result<(), AllocError>
+    requires { 0 < length places.now.items → ready.old.order ≡ order.now }
+    ensures ok { OnOk result (ready.new.order ≡ order.now) }
+    ensures err { OnErr result (ready.new.order ≡ ready.old.order) }
+    ensures same_room { ready.new.laid ≡ ready.old.laid }
+{
+    if places.is_empty() {
+        let alloc = *places.allocator();
+        ready.order = Items::from_vec(order.as_slice().to_vec(alloc)?);
+    }
+    Ok(())
+}
+
+// Sorts places, and lays their records in that order.
+fn lay_sorted(order: &SortSpec, bytes: &[u8], places: &mut Vec<Place>, laid: &mut Laid)
+    requires places { ArePlaces order.now bytes.now places.old.items }
+    requires empty { (laid.old.bytes.items ≡ []) × (laid.old.starts.items ≡ []) }
+    requires room { length bytes.now ≤ vec_capacity laid.old.bytes }
+    requires slots { length places.old.items ≤ vec_capacity laid.old.starts }
+    ensures records { IsPermutation (records_at order.now bytes.now (starts_of places.old.items))
+        (records_at order.now laid.new.bytes.items laid.new.starts.items) }
+    ensures run { IsSoundRun order.now laid.new.bytes.items laid.new.starts.items 0 }
+{
+    sort(order, bytes, places);
+    lay_all(order, bytes, places, laid);
 }
 
 // Brings places into the order of their records.

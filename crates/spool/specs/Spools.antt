@@ -1,6 +1,6 @@
 -- A spool as contracts see it (dumptuples of tuplesort.c: the tuples that were put are sorted and written as a run
 -- whenever there are as many as memory takes). Here a run is bounded by a number of rows.
-use Rattle.std.specs.Prelude.{◌≡◌, ℕ, ◌≤◌, List, [], ◌∷◌, ◌++◌, length, All, Option, Some, None}
+use Rattle.std.specs.Prelude.{◌≡◌, ℕ, ◌≤◌, List, [], ◌∷◌, ◌++◌, length, All}
 use Rattle.std.specs.List.Sorted.{IsPermutation}
 use Rattle.opclass.specs.declared.spec.SortPart.{SortPart}
 use Rattle.shared_tape.specs.declared.stored.Record.{Record}
@@ -28,16 +28,6 @@ pub record IsBoundedRun (order : List SortPart) (most : ℕ) (run : RunView) : T
 abbrev pub AreBoundedRuns : List SortPart → ℕ → List RunView → Type 0
 AreBoundedRuns order most runs = All (IsBoundedRun order most) runs
 
--- the records of a run that may not have begun
-abbrev pub current_records : Option RunView → List Record
-current_records None = []
-current_records (Some run) = run.records
-
 -- the records of full runs and of the one that rows go into
-abbrev pub spooled : List RunView → Option RunView → List Record
-spooled full current = records_of full ++ current_records current
-
--- the current run has the spool's order and no more rows than a run has
-pub record IsCurrentRun (order : List SortPart) (most : ℕ) (run : RunView) : Type 0 where
-  pub same_order : run.order ≡ order
-  pub few : length run.records ≤ most
+abbrev pub spooled : List RunView → List Record → List Record
+spooled full current = records_of full ++ current

@@ -5,13 +5,13 @@
 //! sorted run to a tape and begins again. There the bound is `work_mem`; here it is a number of
 //! rows, so that which rows a run has doesn't depend on how much memory a row takes.
 //!
-//! How it is done: one run is open, and each row's bytes are written into it at once. Where it is
-//! full, the next row begins another; only once that row has its place is the full run sorted and
-//! put behind the others. So each step that may find no memory comes before the one that can't be
-//! taken back.
+//! How it is done: one run is open, and each row's bytes are written into it at once. The row that
+//! makes it full has its place, and the full run a place among the others, before the run is sorted
+//! and put behind them. So each step that may find no memory comes before the one that can't be
+//! taken back. The open run is then empty and keeps its memory for the next rows.
 //!
 //! The invariant: every run but the open one is sorted, in the spool's order, and none is longer
-//! than it may be.
+//! than it may be. The open one is not full.
 //!
 //! # What it promises
 //!

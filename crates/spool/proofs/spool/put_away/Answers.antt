@@ -1,17 +1,18 @@
-use Rattle.std.proofs.Common.{sym, subst, Option}
-use Rattle.std.specs.List.Sorted.{IsPermutation}
-use Rattle.shared_tape.specs.Runs.{RunView, records_of}
-use Rattle.spool.specs.Spools.{spooled}
+use Rattle.std.proofs.Common.{◌≡◌, ◌∷◌, ◌++◌, [], List, ap, ◌∙◌}
+use Rattle.shared_tape.specs.Runs.{RunView}
 use Rattle.spool.proofs.Spooling.{put_away, bounded, bounded_more}
 use Rattle.spool.proofs.spool.put_away.Goals as goal
 
-pub returns-in-Some-clause-records : goal.returns-in-Some-clause-records
-returns-in-Some-clause-records c =
-    subst (λ (run : Option RunView). IsPermutation (spooled c.args.full.now.items run) (records_of c.push_back_reserved.new.self.items)) (sym c.in-Some.is)
-    (put_away _ _ c.in-Some.current _ c.into_run.ensures.records c.push_back_reserved.ensures.items)
+put_behind : (c : goal.After-push_back_reserved)
+    → c.push_back_reserved.new.self.items ≡ c.args.full.now.items ++ c.into_run.result ∷ []
+put_behind c =
+    c.push_back_reserved.ensures.items
+    ∙ ap (λ (runs : List RunView). runs ++ c.into_run.result ∷ []) c.reserve.ensures.items
 
-pub returns-in-Some-clause-runs : goal.returns-in-Some-clause-runs
-returns-in-Some-clause-runs c order most full current =
-    let is = rw c.in-Some.is at current in
-    bounded_more order most _ _ _ full
-    (bounded order most _ _ is c.into_run.ensures.order c.into_run.ensures.records c.into_run.ensures.run) c.push_back_reserved.ensures.items
+pub returns-in_ok-reserve-clause-records : goal.returns-in_ok-reserve-clause-records
+returns-in_ok-reserve-clause-records c = put_away _ _ _ _ c.into_run.ensures.records (put_behind c)
+
+pub returns-in_ok-reserve-clause-runs : goal.returns-in_ok-reserve-clause-runs
+returns-in_ok-reserve-clause-runs c most full few =
+    bounded_more _ most _ _ _ full
+    (bounded _ most _ _ few c.into_run.ensures.order c.into_run.ensures.records c.into_run.ensures.run) (put_behind c)

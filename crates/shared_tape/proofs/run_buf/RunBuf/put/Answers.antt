@@ -12,6 +12,7 @@ invariant_of-self c =
     let storable : IsStorable c.self.inside.order c.args.row = subst (λ (o : List SortPart). IsStorable o c.args.row) (sym same) c.requires in
     record {
       places = put_places _ _ _ _ _ _ storable c.in-Ok.ensures.bytes c.in-Ok.ensures.places c.self.invariant.places;
+      ready = λ some. c.in-Ok.ensures.ready;
       empty = (c.add-added.ensures.ready_bytes ∙ c.self.invariant.empty.0, c.add-added.ensures.ready_starts ∙ c.self.invariant.empty.1);
       room = omega (arith, c.in-Ok.ensures.room);
       slots = omega (arith, c.in-Ok.ensures.slots);
