@@ -1,4 +1,4 @@
--- No other crate cites a lemma of these.
+-- Crates above cite `ReadValues` alone.
 
 -- what the table of types has
 pub mod Facts
@@ -14,3 +14,13 @@ pub mod Elements
 pub mod Products
 -- the values of needed columns, one by one
 pub mod Needed
+-- the ranges of numbers of so many bytes
+pub mod Ranges
+-- the content of a stored value
+pub mod Contents
+-- that what is read is a value of its type: what is no array, the elements of one, and the value of a column
+pub mod Scalars
+pub mod ArrayElements
+pub mod ColumnValues
+-- what is read of several columns: crates above cite `as_many`, `one_read` and `is_key_value`
+pub mod ReadValues

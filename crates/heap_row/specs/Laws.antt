@@ -1,14 +1,15 @@
 -- What follows from the definitions alone.
-use Rattle.std.specs.Prelude.{◌≡◌, ◌≢◌, ℕ, ◌+◌, ◌<◌, ◌≤◌, List, length, Some, Result, Ok, Err}
+use Rattle.std.specs.Prelude.{◌≡◌, ◌≢◌, ℕ, ◌+◌, ◌<◌, ◌≤◌, All, List, length, Some, Result, Ok, Err}
 use Rattle.opclass.specs.declared.table.Column.{Column}
 use Rattle.opclass.specs.declared.value.KeyVal.{KeyVal}
 use Rattle.heap_page.specs.Tuple.{header_of, item_of}
 use Rattle.heap_row.specs.declared.attribute.Attribute.{Attribute}
 use Rattle.heap_row.specs.declared.fault.RowFault.{RowFault}
 use Rattle.heap_row.specs.declared.fault.RowFault.TheVariants.{Memory}
-use Rattle.heap_row.specs.Attribute.{attribute_of, values_of}
+use Rattle.heap_row.specs.Attribute.{AreColumnsOf, attribute_of, values_of}
 use Rattle.heap_row.specs.Fault.{IsAnswerOf}
 use Rattle.heap_row.specs.Tuple.{HeapTuple, tuple_of}
+use Rattle.heap_row.specs.Typed.{AreReadOf}
 
 -- a tuple's bytes, the columns of the table and the needed ones determine the answer, but for want of memory
 abbrev pub ValuesAreDetermined : Type 0
@@ -35,3 +36,10 @@ AttributesAreApart =
     (tuple : HeapTuple) (columns : List Column) (a b : ℕ) (first second : Attribute) (place : ℕ)
     → attribute_of tuple columns a ≡ Ok (Some first) → attribute_of tuple columns b ≡ Ok (Some second) → a ≢ b
     → HasByte first place → HasByte second place → ⊥
+
+-- what is read of a tuple's data are values of their columns' types, none longer than the data
+abbrev pub ValuesAreOfTheirTypes : Type 0
+ValuesAreOfTheirTypes =
+    (tuple : HeapTuple) (columns : List Column) (needed : List ℕ) (values : List KeyVal)
+    → All (λ byte. byte < 256) tuple.body → AreColumnsOf columns needed → values_of tuple columns needed ≡ Ok values
+    → AreReadOf columns (length tuple.body) needed values

@@ -16,6 +16,8 @@ pub mod Array
 pub mod Datum
 -- where each attribute of a tuple stands, and its value
 pub mod Attribute
+-- that what is read are values of their columns' types
+pub mod Typed
 -- what holds of all these
 pub mod Laws
 -- what the passes keep

@@ -21,10 +21,14 @@
 //!
 //! - `read_values` gives exactly the values of the needed columns, in their order, by the definition
 //!   of each form of a value.
+//! - Each value is one that its column's type has: a number in the type's range, bytes, as many as a
+//!   type of a fixed width has, or an array of such elements. None is longer than the page, and no
+//!   element of an array is.
 //! - It refuses exactly the tuples of which a column up to the last needed one is faulty, and tells
 //!   the first such column's least cause.
 //! - The laws: a tuple's bytes, the table's columns and the needed ones determine the answer; each
-//!   attribute lies inside its item, and no two of a tuple share a byte.
+//!   attribute lies inside its item, and no two of a tuple share a byte; what is read of a tuple's
+//!   data are values of their columns' types, none longer than the data.
 //!
 //! # What is not
 //!
@@ -52,5 +56,7 @@ mod varlena;
 mod walk;
 
 pub use fault::{RowCause, RowFault};
-pub use laws::{attributes_are_apart, attributes_are_inside, values_are_determined};
+pub use laws::{
+    attributes_are_apart, attributes_are_inside, values_are_determined, values_are_of_their_types,
+};
 pub use values::read_values;

@@ -1,4 +1,4 @@
-ghost use Rattle.std.specs.Prelude.{◌≡◌};
+ghost use Rattle.std.specs.Prelude.{◌≡◌, ◌<◌, ◌≤◌, All, length};
 ghost use Rattle.heap_page.specs.Line.{IsNormal};
 ghost use Rattle.heap_row.specs.Tuple.{is_null, tuple_of};
 
@@ -34,7 +34,9 @@ impl<'a> HeapTuple<'a> {
     // The tuple of a normal item.
     pub(crate) fn of(view: &View<'a>, item: u16) -> HeapTuple<'a>
         requires { IsNormal view.now.bytes item }
-        ensures { result ≡ tuple_of view.now.bytes item }
+        ensures tuple { result ≡ tuple_of view.now.bytes item }
+        ensures bytes { All (λ byte. byte < 256) result.body }
+        ensures size { length result.body ≤ length view.now.bytes }
     {
         let header = view.header(item);
         let bytes = view.item(item);

@@ -1,9 +1,10 @@
-ghost use Rattle.std.specs.Prelude.{◌≡◌, length};
+ghost use Rattle.std.specs.Prelude.{◌≡◌, IfOk, length};
 ghost use Rattle.heap_page.specs.Line.{IsNormal};
 ghost use Rattle.heap_row.specs.Attribute.{AreColumnsOf, values_of};
 ghost use Rattle.heap_row.specs.Fault.{IsAnswerOf};
 ghost use Rattle.heap_row.specs.Pass.{AreAhead, Gives};
 ghost use Rattle.heap_row.specs.Tuple.{tuple_of};
+ghost use Rattle.heap_row.specs.Typed.{AreReadOf};
 
 use crate::fault::{ReadFault, RowFault};
 use crate::tuple::HeapTuple;
@@ -19,6 +20,8 @@ use std::alloc::Global;
 /// tuple, with its least cause: bytes past the tuple's end, also of a column that isn't needed; and
 /// of a needed column a value that is compressed or stored elsewhere, a truth value that is neither
 /// 0 nor 1, and an array that isn't one of its type.
+///
+/// Each value is one that its column's type has, and no longer than the page.
 pub fn read_values(
     alloc: Global,
     view: &View,
@@ -29,8 +32,9 @@ pub fn read_values(
     requires normal { IsNormal view.now.bytes item }
     requires table { view.now.columns ≡ length table.now.columns }
     requires needed { AreColumnsOf table.now.columns needed.now }
-    ensures { IsAnswerOf
+    ensures values { IsAnswerOf
         (values_of (tuple_of view.now.bytes item) table.now.columns needed.now) result }
+    ensures typed { IfOk result (AreReadOf table.now.columns (length view.now.bytes) needed.now) }
 {
     let tuple = HeapTuple::of(view, item);
     let values = values_of(alloc, &tuple, table.columns.as_slice(), needed.as_slice())?;
