@@ -18,27 +18,29 @@ pub fn plain(
     requires size { size_of kinds.now values.now ≤ 2704 }
     ensures { IfOk result (λ bytes. bytes ≡ plain_image kinds.now values.now ptr) }
 {
+    let (kinds, values) = (kinds.as_slice(), values.as_slice());
     let mut out = Vec::new(alloc);
-    put_plain(&mut out, kinds.as_slice(), values.as_slice(), ptr)?;
+    put_plain(&mut out, kinds, values, tuple_size(kinds, values), ptr)?;
     Ok(Items::from_vec(out))
 }
 
-/// Puts the tuple of a row behind the bytes of a buffer. An error means that no memory was left,
-/// and then the buffer's bytes are as before.
+/// Puts the tuple of a row, whose size in bytes its owner knows from `size_of`, behind the bytes of
+/// a buffer. An error means that no memory was left, and then the buffer's bytes are as before.
 pub fn put_plain(
     out: &mut Vec<u8>,
     kinds: &[ColType],
     values: &[KeyVal],
+    size: u64,
     ptr: RowPtr,
 ) -> Result<(), AllocError>
     requires few { length values.now ≤ 32 }
-    requires size { size_of kinds.now values.now ≤ 2704 }
+    requires size { size ≡ size_of kinds.now values.now }
+    requires small { size ≤ 2704 }
     ensures ok { OnOk result
         (out.new.items ≡ out.old.items ++ plain_image kinds.now values.now ptr) }
     ensures err { OnErr result (out.new.items ≡ out.old.items) }
 {
     let start = out.len();
-    let size = tuple_size(kinds, values);
     let info = size as u16 + marks(kinds, values);
     let put = put_tuple(out, ptr, info, size, kinds, values);
     if put.is_err() {

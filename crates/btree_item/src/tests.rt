@@ -57,7 +57,7 @@ fn plain_of(
 ) -> Result<Bytes, AllocError> {
     assert!(rt; fits(kinds, values));
     let mut out = FRONT.to_vec(alloc)?;
-    put_plain(&mut out, kinds, values, ptr)?;
+    put_plain(&mut out, kinds, values, tuple_size(kinds, values), ptr)?;
     assert!(rt; out.len() >= 3 && out.starts_with(&FRONT));
     Ok(Items::from_vec(out[3..].to_vec(alloc)?))
 }
