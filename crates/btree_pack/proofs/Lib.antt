@@ -1,4 +1,3 @@
--- No lemma of this crate is cited by another.
 pub mod Leaf
 pub mod MetaWrites
 pub mod Worked
@@ -33,3 +32,5 @@ pub mod Sharing
 pub mod TupleImages
 pub mod Takings
 pub mod Puts
+-- which rows a packer takes: cited by the crates above
+pub mod RowsTaken

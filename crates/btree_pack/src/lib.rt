@@ -77,7 +77,7 @@
 //! - `Packer` takes the rows in the order in which they come. It tells equal keys from others, to
 //!   share their tuple, and nothing more: nothing here sorts rows or looks whether they are sorted.
 //! - Besides want of memory, a packing ends as if memory had run out where a file would have 2^31
-//!   blocks or more, or 64 levels: PostgreSQL numbers no such block.
+//!   blocks or more, 64 levels, or 2^64 leaf tuples: PostgreSQL numbers no such block.
 //! - `one_leaf` is the file of at most one leaf over distinct int4 keys. That its file is the whole
 //!   file's definition over such rows isn't proved.
 #![tactic(auto)]

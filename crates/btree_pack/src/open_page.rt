@@ -82,7 +82,8 @@ impl OpenPage {
         requires low_key { IsTuple low_key.items }
         requires tuple { IsTuple tuple.now }
         requires extra { extra ≤ 8192 }
-        ensures { IfOk result (λ page. page ≡ first_page level block low_key.items tuple.now extra) }
+        ensures { IfOk result (λ page.
+            page ≡ first_page level block low_key.items tuple.now extra) }
     {
         let mut last = Vec::from_slice(alloc, tuple)?;
         make_first(level, &mut last);
@@ -115,8 +116,8 @@ impl OpenPage {
         self.level
     }
 
-    /// Whether a tuple of this size breaks the page: it has no room there, or enough is taken as the
-    /// fill factor goes (`_bt_buildadd` of `nbtsort.c`).
+    /// Whether a tuple of this size breaks the page: it has no room there, or enough is taken as
+    /// the fill factor goes (`_bt_buildadd` of `nbtsort.c`).
     pub fn is_full(&self, fillfactor: u8, size: usize) -> bool
         requires { size ≤ 2712 }
         ensures full { result ≡ is_full fillfactor self.now size }
@@ -146,7 +147,8 @@ impl OpenPage {
     /// was the last one before. An error means that no memory was left.
     pub fn add(&mut self, tuple: &mut Vec<u8>, extra: usize) -> Result<(), AllocError>
         requires tuple { IsTuple tuple.old.items }
-        requires room { used self.old + (length tuple.old.items + spare self.old.level) ≤ page_room }
+        requires room { used self.old + (length tuple.old.items + spare self.old.level)
+            ≤ page_room }
         requires extra { extra ≤ 8192 }
         ensures { OnOk result (self.new ≡ with_tuple tuple.old.items extra self.old) }
     {

@@ -12,8 +12,8 @@ use crate::open_page::OpenPage;
 use pg_bytes::IndexImage;
 use std::alloc::{AllocError, Global};
 
-// An image has no place for more blocks, and no memory has room for so many levels: a page above the
-// leaves that isn't the last of its level leads to two pages at least.
+// An image has no place for more blocks, and no memory has room for so many levels: a page above
+// the leaves that isn't the last of its level leads to two pages at least.
 const MOST_BLOCKS: u32 = (1 << 31) - 1;
 
 const MOST_LEVELS: usize = 64;

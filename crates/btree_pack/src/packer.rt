@@ -61,7 +61,8 @@ impl Packer {
     pub fn put(&mut self, row: Record) -> Result<(), AllocError>
         requires { Takes self.old (row_of row) }
         ensures ok { OnOk result ((spec : IndexSpec) → (kinds : List ColType) → (rows : List Row)
-            → HasPut spec kinds rows self.old → HasPut spec kinds (rows ++ row_of row ∷ []) self.new) }
+            → HasPut spec kinds rows self.old
+            → HasPut spec kinds (rows ++ row_of row ∷ []) self.new) }
         ensures err { OnErr result (IsSpent self.new) }
         ensures spent { IsSpent self.old → IsErr result }
     {

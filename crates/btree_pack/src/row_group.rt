@@ -38,7 +38,7 @@ impl RowGroup {
         let values = self.values.as_slice();
         if ptrs.len() == 1 {
             let ptr = ptrs[0];
-            put_plain(out, kinds, values, ptr)?;
+            put_plain(out, kinds, values, self.size, ptr)?;
             return Ok(());
         }
         put_posting(out, &kinds[..keys], &values[..keys], ptrs)?;

@@ -1,3 +1,5 @@
+mod packed_rows;
+
 use crate::tuple::plain_tuple;
 use crate::{OneRow, OpenTower, one_leaf};
 use pg_bytes::{IndexImage, RowPtr, u32_at};

@@ -86,7 +86,8 @@ impl Tuples {
         requires tuples { All IsTuple self.now }
         requires room { 4 * reserved + room_of self.now ≤ 8152 }
         ensures { IfOk result (λ page.
-            page ≡ begun_page (special_space special.now.prev special.now.next special.now.level special.now.flags) reserved self.now) }
+            page ≡ begun_page (special_space special.now.prev special.now.next special.now.level
+            special.now.flags) reserved self.now) }
     {
         let mut page = begun(alloc, special, reserved)?;
         let mut place = 0usize;
@@ -104,7 +105,8 @@ impl Tuples {
 fn begun(alloc: Global, special: &SpecialSpace, reserved: u16) -> Result<PageBuf, AllocError>
     requires { reserved ≤ 1 }
     ensures { IfOk result (λ page.
-        page ≡ begun_page (special_space special.now.prev special.now.next special.now.level special.now.flags) reserved []) }
+        page ≡ begun_page (special_space special.now.prev special.now.next special.now.level
+        special.now.flags) reserved []) }
 {
     let mut page = PageBuf::new(alloc, SPECIAL_BYTES as u16)?;
     page.put_slice(SPECIAL_PLACE, &special.bytes());
