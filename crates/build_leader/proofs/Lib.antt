@@ -1,0 +1,36 @@
+-- Other crates cite `same_outcome` of Determined. The rest is this crate's own.
+
+-- a heap has one list of rows of an index
+pub mod SameRows
+-- the columns that an index needs
+pub mod Needed
+-- the values of its columns, out of those of the needed ones
+pub mod Picking
+-- how an item is read
+pub mod Reading
+-- the rows of a page go into a spool
+pub mod Rows
+-- its rows have different row pointers
+pub mod Apart
+-- its blocks come to one thing
+pub mod Determined
+-- neighbours tell of clashes
+pub mod Neighbours
+-- rows can be put in order
+pub mod Inserting
+-- rows on their way into a packer
+pub mod Coming
+-- the rows of a sound heap are rows of the index
+pub mod IndexRecords
+-- lists that have each number as often
+pub mod Counting
+-- legal claims share out the rows
+pub mod SharedRows
+-- the rows that a scan left on tapes
+pub mod ScannedRows
+-- what a worker has, block by block
+pub mod Working
+-- and claim by claim
+pub mod Claiming
+-- what it comes to at the end
+pub mod Finishing

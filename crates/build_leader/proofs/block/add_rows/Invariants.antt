@@ -1,0 +1,12 @@
+use Rattle.std.proofs.Common.{◌≤◌, take}
+use Rattle.build_leader.specs.Scanning.{IsSameSpool, TakesRows}
+use Rattle.build_leader.proofs.Rows.{AreSoundRows}
+use Rattle.build_leader.proofs.block.add_rows.Given as goal
+
+abbrev pub invariant-loop-i : goal.invariant-loop-i
+invariant-loop-i l = record {
+  same : IsSameSpool l.initial.spool l.spool;
+  taken : TakesRows l.reader.table l.reader.spec l.view.bytes l.block (take l.i l.roots) l.initial.spool l.count l.spool;
+  sound : AreSoundRows l.reader.table l.reader.spec l.view.bytes (take l.i l.roots);
+  few : l.count ≤ l.i;
+}

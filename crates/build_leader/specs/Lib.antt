@@ -1,0 +1,24 @@
+-- Reading order: from the blocks of a heap to what a build of an index comes to.
+
+-- the blocks of a heap
+pub mod Blocks
+-- the row of an index that a live item is
+pub mod IndexRow
+-- the faults of blocks, and the rows of an index in them
+pub mod HeapRows
+-- the blocks and the rows that a worker claims
+pub mod Claimed
+-- the unique rule
+pub mod Unique
+-- what the blocks come to for an index
+pub mod Outcome
+-- what rows are read by
+pub mod Reader
+-- what the passes of a scan keep
+pub mod Scanning
+-- what the calls ask and answer
+pub mod Calls
+-- what holds of all these
+pub mod Laws
+-- what the pass over sorted rows keeps
+pub mod Pass

@@ -1,0 +1,158 @@
+-- What the passes of a scan keep: the rows of a page, and those of the blocks that a worker was at.
+use Rattle.std.specs.Prelude.{◌≡◌, ◌⊎◌, ◌+◌, ◌*◌, ◌^◌, ◌<◌, ◌≤◌, ⊤, ℕ, Bool, true, false, List, [], ◌∷◌, ◌++◌, length, All, Contains, Option, Some, None}
+use Rattle.std.specs.List.Sorted.{IsPermutation}
+use Rattle.opclass.specs.declared.spec.IndexSpec.{IndexSpec}
+use Rattle.opclass.specs.declared.spec.SortPart.{SortPart}
+use Rattle.opclass.specs.declared.table.Table.{Table}
+use Rattle.hot_chain.specs.declared.fault.RootFault.{RootFault}
+use Rattle.hot_chain.specs.declared.fault.RootFault.TheVariants as chains
+use Rattle.hot_chain.specs.Roots.{AreRows, Row}
+use Rattle.block_claim.specs.declared.view.View.{View}
+use Rattle.block_claim.specs.Calls.{ClaimsAreLegal, IsSeatOf, NoReportIsMissed, ScanState, SeatState}
+use Rattle.block_claim.specs.Views.{least_of, unreported}
+use Rattle.heap_row.specs.declared.fault.RowFault.TheVariants as fault
+use Rattle.shared_tape.specs.declared.stored.Record.{Record}
+use Rattle.shared_tape.specs.Runs.{RunView, records_of}
+use Rattle.spool.specs.Spools.{AreBoundedRuns, SpoolView, TakesRecord}
+use Rattle.build_leader.specs.declared.block.BlockError.{BlockError}
+use Rattle.build_leader.specs.declared.block.BlockError.TheVariants as error
+use Rattle.build_leader.specs.declared.fault.LeadFault.{LeadFault}
+use Rattle.build_leader.specs.declared.fault.LeadFault.TheVariants as lead
+use Rattle.build_leader.specs.declared.scanned.Scanned.{Scanned}
+use Rattle.build_leader.specs.declared.worker.BlockFault.{BlockFault}
+use Rattle.build_leader.specs.declared.worker.Share.{Share}
+use Rattle.build_leader.specs.Blocks.{IsWhole, block_count, page_of}
+use Rattle.build_leader.specs.Claimed.{claimed_blocks}
+use Rattle.build_leader.specs.HeapRows.{AreRowsOfBlocks, IsBlockFault, IsSoundBlock}
+use Rattle.build_leader.specs.IndexRow.{AreIndexRows, IsIndexRow, IsLeftOut}
+use Rattle.build_leader.specs.Outcome.{order_of_index}
+use Rattle.build_leader.specs.Reader.{IsItemFault, ReaderView}
+
+-- a spool's bound and order stayed
+pub record IsSameSpool (old new : SpoolView) : Type 0 where
+  pub run_rows : new.run_rows ≡ old.run_rows
+  pub order : new.order ≡ old.order
+
+-- a row of a page went into a spool as the index has it, or WHERE left it out
+abbrev pub TakesRow : Table → IndexSpec → List ℕ → ℕ → Row → SpoolView → Bool → SpoolView → Type 0
+TakesRow table spec page block row old false new = IsLeftOut table spec page row.item × (new ≡ old)
+TakesRow table spec page block row old true new =
+    (first : Record) × IsIndexRow table spec page block row first × TakesRecord old first new
+
+-- what rows of a page are in the index went into a spool, and so many they are
+pub record TakesRows (table : Table) (spec : IndexSpec) (page : List ℕ) (block : ℕ) (rows : List Row) (old : SpoolView)
+    (count : ℕ) (new : SpoolView) : Type 0 where
+  pub records : List Record
+  pub are : AreIndexRows table spec page block rows records
+  pub counted : count ≡ length records
+  pub took : IsPermutation (old.records ++ records) new.records
+
+-- the rows of a page went into a spool
+abbrev pub TakesPage : Table → IndexSpec → List ℕ → ℕ → SpoolView → ℕ → SpoolView → Type 0
+TakesPage table spec page block old count new =
+    (rows : List Row) × AreRows page rows × TakesRows table spec page block rows old count new
+
+-- why a row isn't taken: its item's fault, or want of memory
+abbrev pub IsRowError : Table → IndexSpec → List ℕ → ℕ → BlockError → Type 0
+IsRowError table spec page item (error.Fault number cause) =
+    (number ≡ item) × IsItemFault table spec page item (fault.Value cause)
+IsRowError table spec page item error.Memory = ⊤
+
+-- why a page isn't taken: its fault, or want of memory
+abbrev pub IsPageError : Table → IndexSpec → List ℕ → BlockError → Type 0
+IsPageError table spec page (error.Fault item cause) = IsBlockFault table spec page item cause
+IsPageError table spec page error.Memory = ⊤
+
+-- the fault of a page's chains, or want of memory
+abbrev pub error_of_chains : RootFault → BlockError
+error_of_chains (chains.Item item cause) = error.Fault item cause
+error_of_chains chains.Memory = error.Memory
+
+-- what a worker knows of a block that it was at: it is sound, or above a report that was seen, or reported
+abbrev pub IsJudged : Table → IndexSpec → List ℕ → View → ℕ → Type 0
+IsJudged table spec heap view block =
+    IsSoundBlock table spec (page_of heap block) ⊎ ((view.seen < block) ⊎ Contains view.reports block)
+
+-- the fault that is kept is that of the least report
+abbrev pub KeepsLeast : Table → IndexSpec → List ℕ → List ℕ → Option BlockFault → Type 0
+KeepsLeast table spec heap reports None = reports ≡ []
+KeepsLeast table spec heap reports (Some fault) =
+    (fault.block ≡ least_of reports) × (fault.block < block_count heap)
+    × IsBlockFault table spec (page_of heap fault.block) fault.item fault.cause
+
+-- records, in some order, are the rows of these blocks, and so many they are
+pub record HasRowsOf (table : Table) (spec : IndexSpec) (heap : List ℕ) (blocks : List ℕ) (records : List Record) (count : ℕ)
+    : Type 0 where
+  pub rows : List Record
+  pub are : AreRowsOfBlocks table spec heap blocks rows
+  pub same : IsPermutation rows records
+  pub counted : count ≡ length rows
+
+-- What a worker has that was at these blocks. As long as it has seen no report, it has their rows.
+pub record HasTaken (reader : ReaderView) (heap : List ℕ) (blocks : List ℕ) (share : Share) : Type 0 where
+  pub judged : All (IsJudged reader.table reader.spec heap share.seat.view) blocks
+  pub falls : share.seat.view.seen ≤ least_of share.seat.view.reports
+  pub kept : KeepsLeast reader.table reader.spec heap share.seat.view.reports share.fault
+  pub rows : unreported ≤ share.seat.view.seen
+      → HasRowsOf reader.table reader.spec heap blocks share.spool.records share.rows
+
+-- whatever blocks a worker was at before, it was at these too
+abbrev pub TakesBlocks : ReaderView → List ℕ → List ℕ → Share → Share → Type 0
+TakesBlocks reader heap more old new =
+    (before : List ℕ) → HasTaken reader heap before old → HasTaken reader heap (before ++ more) new
+
+-- A worker of a scan, with the order of the index. Its claims are its own; and if it came to have the whole share, it
+-- would know that all claims are legal and that it has seen no less than the least report.
+pub record IsWorker (reader : ReaderView) (scan : ScanState) (share : Share) : Type 0 where
+  pub of_scan : IsSeatOf scan share.seat
+  pub own : All (λ claim. claim.worker ≡ share.seat.worker) share.seat.view.claims
+  pub order : share.spool.order ≡ order_of_index reader.spec
+  pub legal : ClaimsAreLegal share.seat
+  pub missed : NoReportIsMissed share.seat
+
+-- a worker that was at the blocks of all of its claims
+pub record IsBetweenClaims (reader : ReaderView) (heap : List ℕ) (scan : ScanState) (share : Share) : Type 0 where
+  pub worker : IsWorker reader scan share
+  pub taken : HasTaken reader heap (claimed_blocks (block_count heap) share.seat.view.claims) share
+  pub few : share.rows ≤ length share.seat.view.claims * 2 ^ 33
+
+-- the same worker in the same scan, who claims and reads on
+pub record IsSameWorker (old new : Share) : Type 0 where
+  pub worker : new.seat.worker ≡ old.seat.worker
+  pub share : new.seat.view.share ≡ old.seat.view.share
+  pub run_rows : new.spool.run_rows ≡ old.spool.run_rows
+
+-- a heap and a scan that was opened for its blocks, of a few workers
+pub record IsScanOf (heap : List ℕ) (scan : ScanState) : Type 0 where
+  pub whole : IsWhole heap
+  pub blocks : scan.blocks ≡ block_count heap
+  pub seats : scan.seats ≤ 32
+
+-- a worker made one claim more
+pub record IsOneClaimMore (scan : ScanState) (old new : Share) : Type 0 where
+  pub more : length new.seat.view.claims ≡ length old.seat.view.claims + 1
+  pub few : length new.seat.view.claims ≤ scan.blocks + scan.seats
+
+-- what a worker begins with
+abbrev pub begun_with : SeatState → ℕ → List SortPart → Share
+begun_with seat run_rows order = record {
+  seat = seat;
+  spool = record { run_rows = run_rows; order = order; records = [] };
+  rows = 0;
+  fault = None;
+}
+
+-- a share without a fault became the only tape
+pub record HandsOver (share : Share) (scanned : Scanned) : Type 0 where
+  pub sound : share.fault ≡ None
+  pub tape : List RunView
+  pub is : scanned ≡ record { tapes = tape ∷ []; seat = share.seat; rows = share.rows }
+  pub same : IsPermutation share.spool.records (records_of tape)
+  pub runs : AreBoundedRuns share.spool.order share.spool.run_rows tape
+
+-- why it didn't: the fault that it kept, or want of memory
+abbrev pub TellsFault : Share → LeadFault → Type 0
+TellsFault share (lead.Row block item cause) =
+    share.fault ≡ Some (record { block = block; item = item; cause = cause })
+TellsFault share (lead.Duplicate first second) = ⊥
+TellsFault share lead.Memory = ⊤

@@ -1,0 +1,70 @@
+//! The leader of a build: scans a heap, sorts the rows of an index in it, and packs them.
+//!
+//! `_bt_leafbuild` of `nbtsort.c` sorts what the scan left and writes the leaves in that order, and
+//! `btbuild` of the same file does so behind the scan. Here the workers' tapes are merged, and each
+//! row goes from the merge straight into the packer: no list of rows stands between them.
+//!
+//! A worker of the scan claims blocks and takes the rows of each (`_bt_parallel_scan_and_sort` of
+//! `nbtsort.c`, `heapam_index_build_range_scan` of `heapam_handler.c`): the page is checked, its HOT
+//! chains give each live item its root, and the needed columns of the item are read. WHERE is asked
+//! before the size of the index tuple, so a row that it leaves out can't be too large. A block with a
+//! fault is reported to all workers, and from then on a worker passes over each block above a report
+//! that it has seen. What it reads afterwards is below its own reports, so the fault that it found
+//! last is its least. As long as it has seen no report, it has the rows of all blocks of its claims;
+//! and the seat into which all others were joined has seen no less than the least of all reports. So
+//! either that seat has none, and every block was taken, or the blocks below its least report were.
+//!
+//! A unique index has no two rows that clash. PostgreSQL finds those that do in its sort, which
+//! meets equal keys side by side (`comparetup_index_btree` of `tuplesortvariants.c`). Here a row is
+//! held back until the next one comes, and put once the two are compared. That is enough: rows that
+//! clash have equal keys, and in the order of the index whatever stands between equal keys equals
+//! them, so that two rows clash somewhere exactly where two neighbours do.
+//!
+//! The invariant of the pass: the rows that were put and the one that is held back are the first in
+//! the order of all, and no neighbours among them clash where the index is unique.
+//!
+//! # What it promises
+//!
+//! - Unless memory runs out, `build` gives the index of the heap, byte for byte by the definition of
+//!   its file, with how many rows and pairs it has, and the seat with the claims of the scan; or it
+//!   tells the heap's first fault; or, of a unique index, the first two neighbours that clash.
+//! - What a heap comes to is one thing at most (`build_outcome_is_determined`): the rows of the
+//!   index are one list (`heap_rows_are_determined`), and since no two have one row pointer, they
+//!   have one order. Neighbours tell of all clashes (`neighbours_tell_of_clashes`).
+//! - Whoever claimed which blocks, the workers together have each row of the heap once
+//!   (`claims_share_the_rows`).
+//!
+//! # What is not
+//!
+//! - A plan with workers beside the leader isn't carried out yet.
+//! - That a worker stops reading above a report is left open: a contract says what is told, and not
+//!   which pages were read for it.
+//! - That there is enough memory. Where the index would have 2^31 blocks or more, or 64 levels,
+//!   `build` ends as if there were too little.
+#![tactic(auto)]
+
+mod block;
+mod built;
+mod columns;
+mod fault;
+mod gate;
+mod laws;
+mod leader;
+mod packing;
+mod plan;
+mod row_reader;
+mod scan;
+mod scanned;
+mod worker;
+
+pub use built::Built;
+pub use fault::LeadFault;
+pub use gate::{Gate, NoGate};
+pub use laws::{
+    build_outcome_is_determined, claims_share_the_rows, heap_rows_are_determined,
+    neighbours_tell_of_clashes,
+};
+pub use leader::build;
+pub use plan::Plan;
+pub use scan::scan_heap;
+pub use scanned::Scanned;
