@@ -3,7 +3,8 @@ use Rattle.std.proofs.Common.{◌≡◌, ℕ, ◌+◌, ◌-◌, ◌<◌, ◌≤�
 use Rattle.std.proofs.lemmas.List.{take-append-drop, take-take, drop-take, length-drop, length-take-le, take_all}
 use Rattle.pg_files.specs.Files.{GivesBytes, HoldsBytes, Reads, ToldGives}
 use Rattle.pg_files.specs.Outside.{FileMap, Outside}
-use Rattle.pg_index.specs.HeapFile.{IsFront, IsHeapOf, OnFile, OnToldFile, ReadsOn, most_bytes}
+use Rattle.build_leader.specs.Blocks.{most_bytes}
+use Rattle.pg_index.specs.HeapFile.{IsFront, IsHeapOf, OnFile, OnToldFile, ReadsOn}
 
 -- a front of a list in two parts
 pub take-add : (m n : ℕ) (xs : List ℕ) → take m xs ++ take n (drop m xs) ≡ take (m + n) xs

@@ -1,17 +1,16 @@
 -- How a command ends.
-use Rattle.std.specs.Prelude.{◌≡◌, [], Option}
+use Rattle.std.specs.Prelude.{◌≡◌, Option}
 use Rattle.pg_index.specs.Answer.{status_of}
-use Rattle.pg_index.specs.Run.{Counts}
+use Rattle.pg_index.specs.Run.{Told}
 use Rattle.pg_index.specs.declared.ended.Ended.{Ended}
 use Rattle.pg_index.specs.declared.fault.Fault.{Fault}
 
--- the counts that an end tells
-abbrev pub counts_told : Ended → Counts
-counts_told end = record { rows = end.rows; blocks = end.blocks }
+-- what an end tells beside its fault
+abbrev pub told_by : Ended → Told
+told_by end = record { rows = end.rows; blocks = end.blocks; claims = end.claims }
 
--- the end with this fault or none, and these counts: no build has workers yet, so no claims are told
-pub record IsEnd (fault : Option Fault) (counts : Counts) (end : Ended) : Type 0 where
+-- the end with this fault or none, that tells this
+pub record IsEnd (fault : Option Fault) (told : Told) (end : Ended) : Type 0 where
   pub status : end.status ≡ status_of fault
   pub fault_told : end.fault ≡ fault
-  pub claims : end.claims ≡ []
-  pub counts_are : counts_told end ≡ counts
+  pub told_is : told_by end ≡ told

@@ -1,32 +1,14 @@
--- A heap file: how it is read, its blocks, and what is wrong with it as a whole.
-use Rattle.std.specs.Prelude.{◌≡◌, ◌≢◌, ◌⊎◌, ℕ, ◌*◌, ◌/◌, ◌%◌, ◌<◌, ◌≤◌, ⊤}
-use Rattle.std.specs.Prelude.{List, length, take, drop, Option, Some, None, Result, IsOk, IsErrOf}
+-- A heap file: how it is read, and what is wrong with it as a whole.
+use Rattle.std.specs.Prelude.{◌≡◌, ◌≢◌, ◌⊎◌, ℕ, ◌%◌, ◌<◌, ◌≤◌, ⊤}
+use Rattle.std.specs.Prelude.{List, length, take, Option, Some, None, Result, IsOk, IsErrOf}
 use Rattle.pg_bytes.specs.PageLayout.{page_size}
+use Rattle.build_leader.specs.Blocks.{block_count, most_blocks, most_bytes}
 use Rattle.pg_files.specs.Faults.{most_faults}
 use Rattle.pg_files.specs.Outside.{FileMap, Outside}
 use Rattle.pg_index.specs.declared.heap_file.FileCause.{FileCause}
 use Rattle.pg_index.specs.declared.heap_file.FileCause.TheVariants.{NotWhole, TooLong}
 use Rattle.pg_index.specs.declared.heap_file.ReadError.{ReadError}
 use Rattle.pg_index.specs.declared.heap_file.ReadError.TheVariants.{Failed, Memory}
-
--- the most blocks of a heap: 1 GiB (RELSEG_SIZE of pg_config.h, one segment of a table's file)
-abbrev pub most_blocks : ℕ
-most_blocks = 131072
-
-abbrev pub most_bytes : ℕ
-most_bytes = most_blocks * page_size
-
--- how many whole blocks a file has
-abbrev pub block_count : List ℕ → ℕ
-block_count file = length file / page_size
-
--- the page of a block
-unfoldable pub page_of : List ℕ → ℕ → List ℕ
-page_of heap block = take page_size (drop (block * page_size) heap)
-
--- the heap is of whole blocks, and not too many
-abbrev pub IsWhole : List ℕ → Type 0
-IsWhole heap = (length heap ≤ most_bytes) × (length heap % page_size ≡ 0)
 
 -- What is wrong with the file as a whole, told at this block: it is too long, at the first block past the limit; or
 -- else its last block isn't whole.

@@ -1,68 +1,46 @@
 -- What the words and the heap of a build come to, whoever runs it and whatever fails outside.
-use Rattle.std.specs.Prelude.{◌≡◌, ◌<◌, ◌≤◌, ℕ, List, length, codes, Option, Some, None, IsPermutation}
+use Rattle.std.specs.Prelude.{◌≡◌, ℕ, List, Option, Some, None, Ok, Err}
 use Rattle.pg_files.specs.Outside.{FileMap}
-use Rattle.btree_pack.specs.File.{most_rows}
-use Rattle.btree_pack.specs.declared.row.OneRow.{OneRow}
-use Rattle.pg_index.specs.HeapFile.{OnToldFile}
-use Rattle.pg_index.specs.HeapRows.{AreHeapRows, HasUnread, IsHeapFault, IsSoundHeap}
-use Rattle.pg_index.specs.RowOrder.{HasEqualKeys, KeysStrictlyAscend}
-use Rattle.pg_index.specs.Words.{IsInGrammar, IsUsageFault, heap_name, word}
-use Rattle.pg_index.specs.declared.fault.RowForm.{RowForm}
-use Rattle.pg_index.specs.declared.fault.RowForm.TheVariants.{UnreadRow, EqualKeys, ManyRows}
+use Rattle.index_stmt.specs.declared.fault.StmtFault.{StmtFault}
+use Rattle.build_leader.specs.Blocks.{IsWhole}
+use Rattle.build_leader.specs.Outcome.{BuildOutcome, HasBuildOutcome}
+use Rattle.pg_index.specs.HeapFile.{HasFileFault, OnToldFile}
+use Rattle.pg_index.specs.Statements.{asked_of, form_of}
+use Rattle.pg_index.specs.Words.{IsInGrammar, IsUsageFault, heap_name}
+use Rattle.pg_index.specs.declared.heap_file.FileCause.{FileCause}
+use Rattle.pg_index.specs.declared.statements.Asked.{Asked}
 
--- a table statement and an index statement that are read so far
-abbrev pub AreReadStatements : List ℕ → List ℕ → Type 0
-AreReadStatements table index = (table ≡ codes "CREATE TABLE t (a int4)") × (index ≡ codes "CREATE INDEX i ON t (a)")
-
--- the words' statements are those
-abbrev pub HasReadStatements : List (List ℕ) → Type 0
-HasReadStatements words = AreReadStatements (word words 4) (word words 5)
-
--- the words and the statements are in order
-abbrev pub IsReadCommand : List (List ℕ) → Type 0
-IsReadCommand words = IsInGrammar words × HasReadStatements words
-
--- the rows in the order of their keys, no two of which are equal
-pub record AreSorted (rows sorted : List OneRow) : Type 0 where
-  pub same : IsPermutation rows sorted
-  pub ascending : KeysStrictlyAscend sorted
-
--- what a heap comes to: its first fault by block, item and cause, or rows of a form that isn't built yet, or the rows
--- of the index in order
+-- what a heap file comes to: it is at fault as a whole, told at a block, or its blocks come to something
 pub data HeapOutcome : Type 0 where
-  Faulty : ℕ → ℕ → ℕ → HeapOutcome
-  NotYet : RowForm → HeapOutcome
-  Sorted : List OneRow → HeapOutcome
+  OfFile : FileCause → ℕ → HeapOutcome
+  OfBlocks : BuildOutcome → HeapOutcome
 
--- what a run comes to: a word at fault, a statement that isn't read yet, or what its heap comes to
+-- what a run comes to: a word at fault, the fault of a statement, a form of index that isn't built yet, or what its
+-- heap comes to
 pub data Outcome : Type 0 where
   Usage : ℕ → Outcome
-  Statement : Outcome
+  Statement : StmtFault → Outcome
+  NotYet : ℕ → Outcome
   OfHeap : HeapOutcome → Outcome
 
--- a heap whose rows aren't built yet, each form where none before it holds
-abbrev pub IsOfForm : List ℕ → RowForm → Type 0
-IsOfForm heap UnreadRow = HasUnread heap
-IsOfForm heap EqualKeys = (HasUnread heap → ⊥) × ((rows : List OneRow) × AreHeapRows heap rows × HasEqualKeys rows)
-IsOfForm heap ManyRows =
-    (HasUnread heap → ⊥)
-    × ((rows : List OneRow) × AreHeapRows heap rows × (HasEqualKeys rows → ⊥) × (most_rows < length rows))
+abbrev pub HasHeapOutcome : Asked → List ℕ → HeapOutcome → Type 0
+HasHeapOutcome asked heap (OfFile cause block) = HasFileFault heap cause block
+HasHeapOutcome asked heap (OfBlocks outcome) = IsWhole heap × HasBuildOutcome asked.table asked.spec heap outcome
 
--- a heap whose rows are built, and their order
-abbrev pub IsBuilt : List ℕ → List OneRow → Type 0
-IsBuilt heap sorted =
-    (HasUnread heap → ⊥)
-    × ((rows : List OneRow) × AreHeapRows heap rows × AreSorted rows sorted × (length sorted ≤ most_rows))
+-- the words are in order, and ask for this
+abbrev pub Asks : List (List ℕ) → Asked → Type 0
+Asks words asked = IsInGrammar words × (asked_of words ≡ Ok asked)
 
-abbrev pub HasHeapOutcome : List ℕ → HeapOutcome → Type 0
-HasHeapOutcome heap (Faulty block item cause) = IsHeapFault heap block item cause
-HasHeapOutcome heap (NotYet form) = IsSoundHeap heap × IsOfForm heap form
-HasHeapOutcome heap (Sorted sorted) = IsSoundHeap heap × IsBuilt heap sorted
+-- the words ask for an index that is built
+abbrev pub AsksToBuild : List (List ℕ) → Asked → Type 0
+AsksToBuild words asked = Asks words asked × (form_of asked.spec.method ≡ None)
 
--- What the words and the heap file come to, in the order of refusals: the words, the statements, the heap. Of a
--- heap file that isn't told nothing is said.
+-- What the words and the heap file come to, in the order of refusals: the words, the statements, the form, the heap.
+-- Of a heap file that isn't told nothing is said.
 abbrev pub HasOutcome : List (List ℕ) → Option FileMap → Outcome → Type 0
 HasOutcome words told (Usage fault) = IsUsageFault words fault
-HasOutcome words told Statement = IsInGrammar words × (HasReadStatements words → ⊥)
+HasOutcome words told (Statement fault) = IsInGrammar words × (asked_of words ≡ Err fault)
+HasOutcome words told (NotYet form) = (asked : Asked) × Asks words asked × (form_of asked.spec.method ≡ Some form)
 HasOutcome words told (OfHeap outcome) =
-    IsReadCommand words × OnToldFile told (heap_name words) (λ heap. HasHeapOutcome heap outcome)
+    (asked : Asked) × AsksToBuild words asked
+    × OnToldFile told (heap_name words) (λ heap. HasHeapOutcome asked heap outcome)

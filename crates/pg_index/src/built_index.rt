@@ -1,15 +1,29 @@
-ghost use Rattle.std.specs.Prelude.{IfErr, IfOk};
-ghost use Rattle.pg_index.specs.Calls.BuiltIndex.{IsIndexOf};
-ghost use Rattle.pg_index.specs.Calls.IndexRows.{IsRowsFault};
+ghost use Rattle.std.specs.Prelude.{◌≡◌, IfErr, IfOk, None};
+ghost use Rattle.opclass.specs.Indexes.{IsIndexOver, IsTable};
+ghost use Rattle.pg_index.specs.Calls.BuiltIndex.{IsHeapFault, IsIndexOf, IsManner};
+ghost use Rattle.pg_index.specs.Report.{claims_told};
+ghost use Rattle.pg_index.specs.Statements.{form_of};
 
-use crate::deliver::report;
-use crate::fault::RowsFault;
-use crate::index_rows::index_rows;
-use btree_pack::one_leaf;
-use pg_bytes::IndexImage;
+use crate::fault::HeapFault;
+use crate::heap_file::check_whole;
+use crate::report::report;
+use crate::statements::Asked;
+use block_claim::{Claim, Claims, Scan};
+use build_leader::{Gate, Plan, build};
+use pg_bytes::{IndexImage, PAGE};
 use std::alloc::Global;
+use std::thread::Threads;
 
-/// An index that stands in memory, and the line that tells of it.
+/// How an index is built, whatever it is: by so many workers beside the leader, in sorted runs of
+/// at most so many rows, and whether the report tells the claims.
+#[derive(Clone, Copy, Debug, PartialEq, Eq)]
+pub struct Manner {
+    pub workers: u32,
+    pub run_rows: u32,
+    pub tells_claims: bool,
+}
+
+/// An index that stands in memory, and the report that tells of it.
 #[derive(Debug, Drop)]
 pub struct BuiltIndex {
     pub image: IndexImage,
@@ -18,23 +32,63 @@ pub struct BuiltIndex {
     pub rows: u64,
     /// How many blocks.
     pub blocks: u32,
+    /// Who claimed which blocks of the heap.
+    pub claims: Claims,
 }
 
-/// The index of a heap's rows, or what is at fault with the heap. It takes all the memory that a
+/// The index that is asked for over a heap, or why there is none. It takes all the memory that a
 /// build needs.
-pub fn build_index(alloc: Global, heap: &[u8]) -> Result<BuiltIndex, RowsFault>
-    ensures built { IfOk result (IsIndexOf heap.now) }
-    ensures refused { IfErr result (IsRowsFault heap.now) }
+pub fn build_index<Rt: Threads + Sync, G: Gate + Sync>(
+    rt: &Rt,
+    alloc: Global,
+    heap: &[u8],
+    asked: Asked,
+    manner: Manner,
+    gate: &G,
+) -> Result<BuiltIndex, HeapFault>
+    requires table { IsTable asked.table }
+    requires index { IsIndexOver asked.table asked.spec }
+    requires form { form_of asked.spec.method ≡ None }
+    requires manner { IsManner manner }
+    ensures built { IfOk result (IsIndexOf asked manner heap.now) }
+    ensures refused { IfErr result (IsHeapFault asked heap.now) }
 {
-    let sorted = index_rows(alloc, heap)?;
-    let image = one_leaf(alloc, &sorted)?;
-    let rows = sorted.len() as u64;
-    let blocks = image.blocks();
-    let report = report(alloc, rows, blocks)?;
-    Ok(BuiltIndex {
-        image,
-        report,
-        rows,
+    check_whole(heap)?;
+    let blocks = (heap.len() / PAGE) as u32;
+    let plan = Plan {
+        table: asked.table,
+        spec: asked.spec,
+        workers: manner.workers,
+        run_rows: manner.run_rows,
+    };
+    let (scan, seats) = Scan::open(alloc, blocks, plan.workers + 1)?;
+    let built = build(rt, alloc, heap, &plan, &scan, seats, gate)?;
+    let claims = scan.close(built.seat);
+    let blocks = built.image.blocks();
+    let method = plan.spec.method;
+    let report = report(
+        alloc,
+        told_claims(&claims, manner),
+        method,
+        built.rows,
         blocks,
+    )?;
+    Ok(BuiltIndex {
+        image: built.image,
+        report,
+        rows: built.rows,
+        blocks,
+        claims,
     })
+}
+
+// The claims that the report tells.
+fn told_claims(claims: &Claims, manner: Manner) -> &[Claim]
+    ensures { result.now ≡ claims_told manner.tells_claims claims.now }
+{
+    if manner.tells_claims {
+        claims.as_slice()
+    } else {
+        &[]
+    }
 }

@@ -9,7 +9,8 @@ pub struct Ended {
     pub status: u8,
     /// None exactly where the status is 0.
     pub fault: Option<Fault>,
-    /// Which worker took which blocks: empty, since no build has workers yet.
+    /// Which worker claimed which blocks of the heap, worker by worker: none unless the status is
+    /// 0.
     pub claims: Claims,
     /// How many rows were indexed: 0 unless the status is 0.
     pub rows: u64,
@@ -20,11 +21,11 @@ pub struct Ended {
 impl Ended {
     ghost use Rattle.std.specs.Prelude.{Some, None};
     ghost use Rattle.pg_index.specs.End.{IsEnd};
-    ghost use Rattle.pg_index.specs.Run.{no_counts};
+    ghost use Rattle.pg_index.specs.Run.{nothing};
 
     /// The end of a command that wasn't done.
     pub fn refused(alloc: Global, fault: Fault) -> Ended
-        ensures { IsEnd (Some fault) no_counts result }
+        ensures { IsEnd (Some fault) nothing result }
     {
         Ended {
             status: fault.status(),
@@ -36,13 +37,13 @@ impl Ended {
     }
 
     /// The end of a build.
-    pub fn built(alloc: Global, rows: u64, blocks: u32) -> Ended
-        ensures { IsEnd None (record { rows = rows; blocks = blocks }) result }
+    pub fn built(rows: u64, blocks: u32, claims: Claims) -> Ended
+        ensures { IsEnd None (record { rows = rows; blocks = blocks; claims = claims }) result }
     {
         Ended {
             status: 0,
             fault: None,
-            claims: Claims::new(alloc),
+            claims,
             rows,
             blocks,
         }

@@ -1,9 +1,10 @@
 ghost use Rattle.std.specs.Prelude.{◌≡◌, ◌+◌, ◌<◌, ◌≤◌, length, IfOk, IfErr, OnOk};
 ghost use Rattle.pg_files.specs.Outside.{OnlyReads};
-ghost use Rattle.pg_index.specs.HeapFile.{CountsHeapRead, HasFileFault, IsHeapOf, IsWhole, OnToldFile, ReadsOn, block_count, most_bytes, number_of_file_cause, page_of};
+ghost use Rattle.pg_index.specs.HeapFile.{CountsHeapRead, HasFileFault, IsHeapOf, OnToldFile, ReadsOn, number_of_file_cause};
+ghost use Rattle.build_leader.specs.Blocks.{IsWhole, most_bytes};
 ghost use Rattle.pg_index.specs.declared.heap_file.ReadError.TheVariants.{Failed, Memory};
 
-use pg_bytes::{PAGE, Page, zero_bytes};
+use pg_bytes::{PAGE, zero_bytes};
 use pg_files::Files;
 use std::alloc::{AllocError, Global};
 
@@ -119,17 +120,4 @@ pub fn check_whole(heap: &[u8]) -> Result<(), FileFault>
         });
     }
     Ok(())
-}
-
-/// The page of a block.
-#[tactic(auto, unfolding(crate::specs::HeapFile::page_of))]
-pub fn page_at(heap: &[u8], block: u32) -> Page<'_>
-    requires { block < block_count heap.now }
-    ensures { result ≡ page_of heap.now block }
-{
-    let start = block as usize * PAGE;
-    match Page::of(&heap[start..start + PAGE]) {
-        Some(page) => page,
-        None => unreachable!(),
-    }
 }

@@ -1,10 +1,11 @@
 //! The program: a command line, the top call, and an exit status.
 //!
 //! A run goes through five stages, each a file of this crate with a contract of its own. The words
-//! are read (`words`); the heap file is read whole (`heap_file`); its blocks are judged one by one
-//! and their rows taken (`scan`), or else the first fault is told; the rows are put in order
-//! (`row_order`, `index_rows`); and only when the index stands in memory (`built_index`) is the index
-//! file created, written page by page, and the report said (`deliver`, `index_file`).
+//! are read (`words`), and the two statements among them (`statements`); the heap file is read whole
+//! (`heap_file`); the leader builds the index of its rows in memory, or tells what is refused
+//! (`built_index`, over `build_leader`); and only when the index stands there, with its report
+//! (`report`), is the index file created, written page by page, and the report said (`deliver`,
+//! `index_file`).
 //!
 //! The invariant: until `deliver` nothing outside is changed, and from `deliver` on no memory is
 //! taken.
@@ -18,7 +19,8 @@
 //! # What is not
 //!
 //! Whether memory is found. What a real file holds, which no clause can tell. Whether two names are
-//! two files: an index that is written under another name of the heap file replaces the heap.
+//! two files: `main` asks the operating system before the run (`same_file`), which doesn't notice
+//! hard links, and an index that is written under one of the heap file replaces the heap.
 #![tactic(auto)]
 
 ghost use Rattle.std.specs.Prelude.{◌≡◌, ◌⊎◌, None, Some, OnErr, OnOk};
@@ -30,30 +32,32 @@ mod command;
 mod deliver;
 mod ended;
 mod fault;
-mod gate;
 mod heap_file;
 mod help;
 mod index_file;
-mod index_rows;
-mod int4_row;
 mod laws;
-mod row_order;
-mod scan;
+mod report;
+mod same_file;
+mod statements;
 #[cfg(test)]
 mod tests;
 mod words;
 
 pub use block_claim::{Claim, Claims};
+pub use build_leader::{Gate, NoGate};
 pub use command::run;
 pub use ended::Ended;
 pub use fault::Fault;
-pub use gate::{Gate, NoGate};
 use help::{HELP, VERSION};
-pub use laws::{heap_rows_are_determined, order_is_determined, outcome_is_determined};
+pub use laws::outcome_is_determined;
 use pg_files::RealFiles;
+use same_file::is_heap_by_another_name;
 use std::process::ExitCode;
 use std::rt::Env;
 use std::{env, io};
+
+// The number of the word INDEX.
+const INDEX_WORD: u32 = 3;
 
 fn main(rt: HostRuntime) -> ExitCode {
     let words = match words_of(&rt) {
@@ -66,6 +70,9 @@ fn main(rt: HostRuntime) -> ExitCode {
             "--version" => return show(&rt, VERSION),
             _ => {}
         }
+    }
+    if is_heap_by_another_name(&rt, words.as_slice()) {
+        return exit(&rt, &Some(Fault::Usage { word: INDEX_WORD }));
     }
     let mut files = RealFiles::new(&rt);
     let ended = run(&rt, rt.alloc(), &words, &mut files, &NoGate);

@@ -1,20 +1,44 @@
 -- An index that stands in memory.
-use Rattle.std.specs.Prelude.{◌≡◌, ℕ, List, string_bytes}
-use Rattle.btree_pack.specs.File.{one_leaf_file}
-use Rattle.btree_pack.specs.declared.row.OneRow.{OneRow}
-use Rattle.pg_index.specs.Outcome.{HasHeapOutcome, Sorted}
+use Rattle.std.specs.Prelude.{◌≡◌, ◌+◌, ◌≤◌, ⊤, ℕ, List, string_bytes}
+use Rattle.block_claim.specs.Legal.{IsLegal}
+use Rattle.build_leader.specs.Blocks.{block_count}
+use Rattle.build_leader.specs.Outcome.{Faulty, Duplicate, Sorted, index_file}
+use Rattle.build_leader.specs.declared.fault.LeadFault.TheVariants as lead
+use Rattle.shared_tape.specs.declared.stored.Record.{Record}
+use Rattle.pg_index.specs.Outcome.{HasHeapOutcome, OfBlocks, OfFile}
 use Rattle.pg_index.specs.Report.{report_of}
-use Rattle.pg_index.specs.Run.{Counts, counts_of}
+use Rattle.pg_index.specs.Run.{Told, told_of}
+use Rattle.pg_index.specs.Words.{most_workers}
 use Rattle.pg_index.specs.declared.built_index.BuiltIndex.{BuiltIndex}
+use Rattle.pg_index.specs.declared.built_index.Manner.{Manner}
+use Rattle.pg_index.specs.declared.fault.HeapFault.{HeapFault}
+use Rattle.pg_index.specs.declared.fault.HeapFault.TheVariants.{File, Lead}
+use Rattle.pg_index.specs.declared.statements.Asked.{Asked}
 
--- how many rows and blocks it has
-abbrev pub counts_of_index : BuiltIndex → Counts
-counts_of_index index = record { rows = index.rows; blocks = index.blocks }
+-- a manner in which indexes are built so far
+pub record IsManner (manner : Manner) : Type 0 where
+  pub workers : manner.workers ≤ most_workers
+  pub run_rows : 1 ≤ manner.run_rows
 
--- the index of the rows that the heap comes to, and its report
-pub record IsIndexOf (heap : List ℕ) (index : BuiltIndex) : Type 0 where
-  pub sorted : List OneRow
-  pub outcome : HasHeapOutcome heap (Sorted sorted)
-  pub image : index.image ≡ one_leaf_file sorted
-  pub report : string_bytes index.report ≡ report_of (counts_of sorted).rows (counts_of sorted).blocks
-  pub counts : counts_of_index index ≡ counts_of sorted
+-- what is told of it
+abbrev pub told_of_index : BuiltIndex → Told
+told_of_index index = record { rows = index.rows; blocks = index.blocks; claims = index.claims }
+
+-- the index of the rows that the heap comes to, its report, and who claimed the heap's blocks
+pub record IsIndexOf (asked : Asked) (manner : Manner) (heap : List ℕ) (index : BuiltIndex) : Type 0 where
+  pub sorted : List Record
+  pub outcome : HasHeapOutcome asked heap (OfBlocks (Sorted sorted))
+  pub image : index.image ≡ index_file asked.table asked.spec sorted
+  pub report : string_bytes index.report
+      ≡ report_of manner.tells_claims index.claims asked.spec.method index.rows index.blocks
+  pub told : told_of_index index ≡ told_of asked sorted index.claims
+  pub legal : IsLegal (block_count heap) (manner.workers + 1) index.claims
+
+-- why there is none
+abbrev pub IsHeapFault : Asked → List ℕ → HeapFault → Type 0
+IsHeapFault asked heap (File file) = HasHeapOutcome asked heap (OfFile file.cause file.block)
+IsHeapFault asked heap (Lead (lead.Row block item cause)) =
+    HasHeapOutcome asked heap (OfBlocks (Faulty block item cause))
+IsHeapFault asked heap (Lead (lead.Duplicate first second)) =
+    HasHeapOutcome asked heap (OfBlocks (Duplicate first second))
+IsHeapFault asked heap (Lead lead.Memory) = ⊤

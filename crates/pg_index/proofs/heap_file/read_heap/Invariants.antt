@@ -1,7 +1,7 @@
 use Rattle.std.proofs.Common.{◌≡◌, ◌-◌, ◌+◌, ◌<◌, length}
 use Rattle.pg_files.specs.Outside.{OnlyReads}
 use Rattle.pg_index.proofs.ReadOn.{HasFront}
-use Rattle.pg_index.specs.HeapFile.{most_bytes}
+use Rattle.build_leader.specs.Blocks.{most_bytes}
 use Rattle.pg_index.proofs.heap_file.read_heap.Given as goal
 
 abbrev pub invariant-reading : goal.invariant-reading

@@ -1,9 +1,0 @@
-use Rattle.std.proofs.Common.{◌≡◌, ℕ, ◌+◌, ◌-◌, ◌*◌, ap, ◌∙◌, arith, take, drop}
-use Rattle.pg_index.specs.HeapFile.{page_of}
-use Rattle.pg_index.proofs.heap_file.page_at.Goals as goal
-
-pub returns : goal.returns
-unfolding page_of
-returns c =
-    let size : c.args.block * 8192 + 8192 - c.args.block * 8192 ≡ 8192 = omega arith in
-    c.in-Some.ensures.page ∙ ap (λ (n : ℕ). take n (drop (c.args.block * 8192) c.args.heap.now)) size
