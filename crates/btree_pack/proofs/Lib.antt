@@ -1,4 +1,4 @@
-pub mod Leaf
+pub mod Lengths
 pub mod MetaWrites
 pub mod Worked
 pub mod WorkedKeys

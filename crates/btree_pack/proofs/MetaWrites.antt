@@ -6,7 +6,7 @@ use Rattle.pg_bytes.proofs.Writes.{length-number_bytes, length-zeros, written-mi
 use Rattle.pg_bytes.specs.Numbers.{number_bytes}
 use Rattle.pg_bytes.specs.PageLayout.{empty_page, page_header}
 use Rattle.pg_bytes.specs.Places.{written, zeros}
-use Rattle.btree_pack.proofs.Leaf.{length-special_space}
+use Rattle.btree_pack.proofs.Lengths.{length-special_space}
 use Rattle.btree_pack.specs.Page.{is_meta, meta_fields, meta_page, special_space}
 
 pub length-meta_fields : (root level : ℕ) (equal : Bool) → length (meta_fields root level equal) ≡ 48

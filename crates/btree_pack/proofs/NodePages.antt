@@ -23,7 +23,7 @@ use Rattle.btree_pack.specs.Pages.{Page, items_of}
 use Rattle.btree_pack.specs.Tower.{item_above, levels}
 use Rattle.btree_pack.specs.Tuple.{minus_infinity, with_child}
 use Rattle.btree_pack.proofs.Contents.{levels_begin, levels_name}
-use Rattle.btree_pack.proofs.Leaf.{length-row_pointer_bytes, length-special_space}
+use Rattle.btree_pack.proofs.Lengths.{length-row_pointer_bytes, length-special_space}
 use Rattle.btree_pack.proofs.Room.{pages_fit}
 
 length-minus_infinity : (child : ℕ) → length (minus_infinity child) ≡ 8

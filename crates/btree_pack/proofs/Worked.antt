@@ -1,6 +1,8 @@
 -- The definitions on rows whose pages were worked out by hand.
-use Rattle.std.proofs.Common.{◌≡◌, ℕ, zero, suc, List, [], ◌∷◌, length, map, refl, append-nil}
+use Rattle.std.proofs.Common.{◌≡◌, ℕ, zero, suc, List, [], ◌∷◌, ◌++◌, length, map, refl, append-nil}
 use Rattle.std.specs.Prelude.{ℤ, pos, true, false, Some, None}
+use Rattle.std.specs.Int.{w32, cast_unsigned}
+use Rattle.pg_bytes.specs.declared.row_ptr.RowPtr.{RowPtr}
 use Rattle.pg_bytes.specs.ItemPage.{item_page}
 use Rattle.pg_bytes.specs.Numbers.{number_bytes}
 use Rattle.pg_bytes.specs.PageLayout.{aligned, page_header}
@@ -8,12 +10,11 @@ use Rattle.pg_bytes.specs.Places.{zeros}
 use Rattle.pg_bytes.specs.Pointers.{row_pointer_bytes}
 use Rattle.opclass.specs.declared.value.KeyVal.{KeyVal}
 use Rattle.opclass.specs.declared.value.KeyVal.TheVariants.{Num}
-use Rattle.btree_pack.specs.File.{one_leaf_file}
 use Rattle.btree_pack.specs.Leaves.{Images, leaf_items}
 use Rattle.btree_pack.specs.Nodes.{file_of, meta_page_of, nodes_of}
-use Rattle.btree_pack.specs.Page.{meta_page, special_space}
+use Rattle.btree_pack.specs.Page.{meta_page, rightmost_page, special_space}
 use Rattle.btree_pack.specs.Separators.{separator}
-use Rattle.btree_pack.specs.Tuple.{int4_bytes, minus_infinity, plain_tuple, with_child}
+use Rattle.btree_pack.specs.Tuple.{minus_infinity, with_child}
 use Rattle.btree_pack.specs.Births.{Birth, births_of, block_of}
 use Rattle.btree_pack.specs.Break.{Item}
 use Rattle.btree_pack.specs.Groups.{Row, Group, rows_of, most_sharing, pieces, leaf_groups}
@@ -131,30 +132,35 @@ right_child : with_child 2 (0 ∷ 0 ∷ 0 ∷ 0 ∷ 1 ∷ 0 ∷ 0x10 ∷ 0x20 �
 unfolding with_child number_bytes
 right_child = refl
 
+-- the tuple of a row with an int4 key: its row pointer, its size, the key, and padding
+int4_tuple : RowPtr → ℤ → List ℕ
+int4_tuple pointer key =
+    row_pointer_bytes pointer ++ (number_bytes 2 16 ++ (number_bytes 4 (cast_unsigned w32 key) ++ zeros 4))
+
 -- int4 tuples as they are written, and no others
 int4_images : Images
 int4_images = record {
-  plain = λ values pointer. plain_tuple pointer (int4_of values);
+  plain = λ values pointer. tuple_of pointer values;
   posting = λ values pointers. [];
   pivot = λ separator. [];
 }
   where
-    int4_of : List KeyVal → List ℕ
-    int4_of (Num number ∷ []) = int4_bytes number
-    int4_of values = []
+    tuple_of : RowPtr → List KeyVal → List ℕ
+    tuple_of pointer (Num number ∷ []) = int4_tuple pointer number
+    tuple_of pointer values = []
 
--- the file of three rows with distinct keys is that of one leaf
+-- the file of three rows with distinct keys is the meta page and one leaf, which is the root
 three_rows : file_of true (levels 90 (leaf_items int4_images true
     (record { keys = Num (pos 10) ∷ []; extra = []; pointer = record { block = 0; offset = 2 } }
     ∷ record { keys = Num (pos 20) ∷ []; extra = []; pointer = record { block = 0; offset = 3 } }
     ∷ record { keys = Num (pos 30) ∷ []; extra = []; pointer = record { block = 0; offset = 1 } } ∷ [])))
-    ≡ one_leaf_file (record { key = pos 10; ptr = record { block = 0; offset = 2 } }
-    ∷ record { key = pos 20; ptr = record { block = 0; offset = 3 } }
-    ∷ record { key = pos 30; ptr = record { block = 0; offset = 1 } } ∷ [])
-unfolding int4_images file_of meta_page_of levels cut leaf_items most_sharing pieces nodes_of block_of plain_tuple int4_bytes row_pointer_bytes number_bytes zeros aligned item_page page_header special_space
+    ≡ meta_page 1 0 true ++ rightmost_page 0 0 3 (int4_tuple (record { block = 0; offset = 2 }) (pos 10)
+    ∷ int4_tuple (record { block = 0; offset = 3 }) (pos 20)
+    ∷ int4_tuple (record { block = 0; offset = 1 }) (pos 30) ∷ [])
+unfolding int4_tuple int4_images file_of meta_page_of levels cut leaf_items most_sharing pieces nodes_of block_of row_pointer_bytes number_bytes zeros aligned item_page page_header special_space
 three_rows = refl
 
 -- and without rows it is the meta page
-no_rows : file_of true (levels 90 (leaf_items int4_images true [])) ≡ one_leaf_file []
+no_rows : file_of true (levels 90 (leaf_items int4_images true [])) ≡ meta_page 0 0 true
 unfolding file_of meta_page_of levels leaf_items nodes_of
 no_rows = append-nil (meta_page 0 0 true)

@@ -4,8 +4,6 @@
 pub mod Tuple
 -- pages: the special space, the rightmost page of a level, the meta page
 pub mod Page
--- the file of rows that one leaf holds
-pub mod File
 -- the end of a list
 pub mod Ends
 -- where a page ends

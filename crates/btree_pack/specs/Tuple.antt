@@ -1,23 +1,11 @@
 -- Index tuples (IndexTupleData of itup.h).
-use Rattle.std.specs.Prelude.{ℕ, ◌+◌, ◌/◌, ◌%◌, ◌^◌, List, ◌++◌, length, drop, ℤ}
-use Rattle.std.specs.Int.{w32, cast_unsigned}
-use Rattle.pg_bytes.specs.Numbers.{number_bytes, rounded_up}
-use Rattle.pg_bytes.specs.PageLayout.{aligned}
+use Rattle.std.specs.Prelude.{ℕ, ◌+◌, ◌/◌, ◌%◌, ◌^◌, List, ◌++◌, drop}
+use Rattle.pg_bytes.specs.Numbers.{number_bytes}
 use Rattle.pg_bytes.specs.Pointers.{row_pointer_bytes}
-use Rattle.pg_bytes.specs.declared.row_ptr.RowPtr.{RowPtr}
 
 -- where a tuple's key begins, behind the row pointer and t_info
 abbrev pub key_place : ℕ
 key_place = 8
-
--- the tuple of a key without nulls and without values of variable width: t_info has its size alone
-unfoldable pub plain_tuple : RowPtr → List ℕ → List ℕ
-plain_tuple ptr key =
-    row_pointer_bytes ptr ++ (number_bytes 2 (rounded_up 8 (key_place + length key)) ++ aligned key)
-
--- the bytes of an int4 value
-unfoldable pub int4_bytes : ℤ → List ℕ
-int4_bytes value = number_bytes 4 (cast_unsigned w32 value)
 
 -- the pivot tuple without keys, which stands for minus infinity and leads to a child (_bt_sortaddtup of nbtsort.c): the
 -- child's block in the place of the row pointer's, no attributes, and INDEX_ALT_TID_MASK beside the size

@@ -49,7 +49,6 @@
 //!   factor, with tuples shared or not. It keeps one pass over them, with one open page on each
 //!   level. So does `OpenTower` for leaf items that are written already.
 //! - Where memory runs out on the way, `put` says so, and no file comes from that packing.
-//! - Unless memory runs out, `one_leaf` gives exactly the file of its definition, each byte of it.
 //! - Of the definition of the whole file, over any rows: the groups hold exactly the rows
 //!   (`groups_hold_the_rows`), the leaves hold exactly their tuples, in order
 //!   (`leaf_items_are_the_groups`, `leaves_hold_the_items`), each level names each page of the
@@ -78,22 +77,17 @@
 //!   share their tuple, and nothing more: nothing here sorts rows or looks whether they are sorted.
 //! - Besides want of memory, a packing ends as if memory had run out where a file would have 2^31
 //!   blocks or more, 64 levels, or 2^64 leaf tuples: PostgreSQL numbers no such block.
-//! - `one_leaf` is the file of at most one leaf over distinct int4 keys. That its file is the whole
-//!   file's definition over such rows isn't proved.
 #![tactic(auto)]
 
 mod grouper;
 mod key_bounds;
 mod laws;
-mod leaf_file;
 mod meta;
 mod open_page;
 mod open_tower;
 mod packer;
-mod row;
 mod row_group;
 mod special;
-mod tuple;
 mod tuples;
 
 pub use key_bounds::{
@@ -108,10 +102,8 @@ pub use laws::{
     pages_are_numbered_as_born, pages_fit, step_takes_the_next_numbers, the_last_level_is_the_root,
     tower_grows_by_a_step,
 };
-pub use leaf_file::{MOST_ROWS, one_leaf};
 pub use open_tower::OpenTower;
 pub use packer::Packer;
-pub use row::OneRow;
 
 #[cfg(test)]
 mod tests;

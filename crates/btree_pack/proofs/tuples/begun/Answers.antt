@@ -1,5 +1,5 @@
 use Rattle.btree_pack.proofs.BegunPages.{written-begun_page}
-use Rattle.btree_pack.proofs.Leaf.{length-special_space}
+use Rattle.btree_pack.proofs.Lengths.{length-special_space}
 use Rattle.btree_pack.proofs.tuples.begun.Goals as goal
 
 pub returns : goal.returns

@@ -1,5 +1,5 @@
 use Rattle.std.proofs.Common.{◌≡◌, List, ℕ, length, arith, ◌∙◌, refl}
-use Rattle.btree_pack.proofs.Leaf.{length-special_space}
+use Rattle.btree_pack.proofs.Lengths.{length-special_space}
 use Rattle.btree_pack.proofs.OpenPages.{HasLast, has_last}
 use Rattle.btree_pack.specs.Page.{special_space}
 use Rattle.btree_pack.specs.Pass.Begun.{begun_page}

@@ -3,7 +3,7 @@ use Rattle.std.specs.Prelude.{All}
 use Rattle.std.proofs.lemmas.List.{take_all}
 use Rattle.std.proofs.lemmas.List.Sums.{sum_by_more}
 use Rattle.btree_pack.proofs.Buffer.{inside-tuples, length-cut_by, tuple-at}
-use Rattle.btree_pack.proofs.Leaf.{length-special_space}
+use Rattle.btree_pack.proofs.Lengths.{length-special_space}
 use Rattle.btree_pack.proofs.TupleRoom.{HasPlace, has_place}
 use Rattle.btree_pack.specs.Page.{special_space}
 use Rattle.btree_pack.specs.Pass.Begun.{begun_page}
