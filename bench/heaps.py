@@ -25,6 +25,7 @@ HEADER = 24
 TUPLE_HEADER = 24
 
 # Bits of a tuple's infomask and infomask2.
+HAS_NULL = 0x0001
 XMIN_COMMITTED = 0x0100
 XMAX_COMMITTED = 0x0400
 XMAX_INVALID = 0x0800
@@ -51,7 +52,7 @@ class Redirect:
 
 @dataclass(frozen=True)
 class Tuple:
-    """A heap tuple of one int4, or without its attribute where key is None."""
+    """A heap tuple of one int4, without its attribute where key is None, or of other attributes."""
 
     item: int
     """The offset number of its ctid."""
@@ -62,13 +63,25 @@ class Tuple:
     key: int | None = 0
     block: int = 0
     """The block of its ctid."""
+    data: bytes | None = None
+    """Its attributes, where they aren't the one int4."""
+    bitmap: bytes = b""
+    """Its null bitmap, whose bit of the infomask is set with it."""
 
 
 def tuple_bytes(row):
     """The tuple as it stands on a page, without padding."""
+    hoff = (TUPLE_HEADER - 1 + max(len(row.bitmap), 1) + 7) // 8 * 8
+    infomask = row.infomask | (HAS_NULL if row.bitmap else 0)
     header = struct.pack(
-        "<IIIHHHHHBx", row.xmin, row.xmax, 0, row.block >> 16, row.block & 0xFFFF, row.item, row.infomask2, row.infomask, TUPLE_HEADER
-    )
+        "<IIIHHHHHB",
+        row.xmin, row.xmax, 0,
+        row.block >> 16, row.block & 0xFFFF, row.item,
+        row.infomask2, infomask, hoff,
+    )  # fmt: skip
+    header += row.bitmap + bytes(hoff - len(header) - len(row.bitmap))
+    if row.data is not None:
+        return header + row.data
     return header if row.key is None else header + struct.pack("<i", row.key)
 
 

@@ -1,263 +1,137 @@
 #!/usr/bin/env python3
-"""What a build has to answer to a heap file, read from docs/formats and from nothing else of this repository.
+"""What a build has to answer to a heap file and two statements, read from docs/formats and from
+nothing else of this repository.
 
-    bench/model.py HEAP [INDEX]
+    bench/model.py HEAP [INDEX] [TABLE-STATEMENT INDEX-STATEMENT]
 
-prints the answer to a heap file, and writes the index file where there is one. It follows the definitions as they
-stand, with no thought of speed, so that it can be held against the program.
+prints the answer to a heap file, and writes the index file where there is one. It follows the
+definitions as they stand, with no thought of speed, so that it can be held against the program.
+`model_statements.py` reads the statements, `model_heap.py` pages and chains, `model_values.py` the
+values of rows, and `model_btree.py` makes the index.
 """
 
-import struct
+from __future__ import annotations
+
 import sys
 from dataclasses import dataclass
 
-PAGE = 8192
-MOST_BLOCKS = 131072
-MOST_ROWS = 367
-COLUMNS = 1
+# The repository gets no folder of compiled modules.
+sys.dont_write_bytecode = True
 
-UNUSED, NORMAL, REDIRECT, DEAD = range(4)
+import program
+from model_btree import MOST_TUPLE, Row, Tree, row_tuple
+from model_heap import MOST_BLOCKS, PAGE, Fault, read_items, rows_of
+from model_statements import Index, Refused, Table, read_index, read_table
+from model_values import Unread, keeps, order_of, values_of
 
-BUILT, HEAP_FAULT, NOT_YET = 0, 5, 11
+BUILT, STATEMENT_FAULT, HEAP_FAULT, DUPLICATE, NOT_YET = 0, 3, 5, 6, 11
+
+TOO_WIDE = 12
+
+# The methods whose indexes aren't built yet, by their forms.
+FORMS = {"brin": 9, "gin": 10}
 
 
 @dataclass(frozen=True)
 class Answer:
-    """How the build of a heap ends: its status, what it prints on standard error, and the index file's bytes or None."""
+    """How a build ends."""
 
     status: int
     error: str
+    """What it prints on standard error."""
     index: bytes | None = None
+    """The index file's bytes."""
+    rows: int = 0
 
 
-class Fault(Exception):
-    """What a page is refused for: item and cause."""
-
-
-def u16(page, at):
-    return int.from_bytes(page[at : at + 2], "little")
-
-
-def u32(page, at):
-    return int.from_bytes(page[at : at + 4], "little")
-
-
-class Item:
-    """A line pointer by its number, and the header of its tuple where it leads to one within the page."""
-
-    def __init__(self, page, number):
-        word = u32(page, 20 + 4 * number)
-        self.number = number
-        self.offset = word & 0x7FFF
-        self.state = word >> 15 & 3
-        self.length = word >> 17
-        self.end = self.offset + self.length
-        self.page = page
-
-    def read_header(self):
-        at = self.offset
-        self.xmin = u32(self.page, at)
-        self.xmax = u32(self.page, at + 4)
-        self.ctid_item = u16(self.page, at + 16)
-        infomask2 = u16(self.page, at + 18)
-        self.infomask = u16(self.page, at + 20)
-        self.hoff = self.page[at + 22]
-        self.attributes = infomask2 & 0x07FF
-        self.heap_only = infomask2 & 0x8000 != 0
-        self.hot_updated = infomask2 & 0x4000 != 0 and not self.has(0x0800) and not self.is_aborted()
-
-    def has(self, bits):
-        return self.infomask & bits != 0
-
-    def is_aborted(self):
-        return self.has(0x0200) and not self.has(0x0100)
-
-    def state_of_row(self):
-        """live, dead or None."""
-        locked_only = self.has(0x0080) or self.infomask & 0x1050 == 0x0040
-        lines = [
-            (self.has(0xC000), None),
-            (not self.has(0x0300), None),
-            (self.is_aborted(), "dead"),
-            (self.has(0x0800), "live"),
-            (locked_only, "live"),
-            (self.has(0x1000), None),
-            (self.has(0x0400), "dead"),
-            (True, None),
-        ]
-        return next(state for holds, state in lines if holds)
-
-
-def check_header(page):
-    if (
-        u16(page, 18) != 0x2004
-        or u16(page, 10) >= 8
-        or u16(page, 16) != PAGE
-        or u16(page, 12) < 24
-        or u16(page, 14) < u16(page, 12)
-        or u16(page, 14) > PAGE
-    ):
-        raise Fault(0, 1)
-
-
-def is_bad_line(item, items, upper):
-    if item.state == REDIRECT:
-        return item.offset == 0 or item.offset > len(items)
-    if item.state != NORMAL:
-        return False
-    if item.offset % 8 != 0 or item.offset < upper or item.end > PAGE or item.length < 24:
-        return True
-    lesser = (it for it in items[: item.number - 1] if it.state == NORMAL and it.end <= PAGE)
-    return any(max(it.offset, item.offset) < min(it.end, item.end) for it in lesser)
-
-
-def is_bad_tuple(item):
-    return (
-        item.hoff < 24
-        or item.hoff % 8 != 0
-        or item.hoff > item.length
-        or item.attributes > COLUMNS
-        or (item.has(0x0001) and item.hoff < 23 + (item.attributes + 7) // 8)
-    )
-
-
-def read_items(page):
-    """The items of a page, the first of which has number 1. A page with one of the faults 1 to 4 raises it."""
-    if u16(page, 14) == 0:
-        return []
-    check_header(page)
-    items = [Item(page, number) for number in range(1, (u16(page, 12) - 24) // 4 + 1)]
-    for item in items:
-        if is_bad_line(item, items, u16(page, 14)):
-            raise Fault(item.number, 2)
-        if item.state == NORMAL:
-            item.read_header()
-            if is_bad_tuple(item):
-                raise Fault(item.number, 3)
-            if item.state_of_row() is None:
-                raise Fault(item.number, 4)
-    return items
-
-
-def normal(items, number):
-    """The normal item of a number, or None."""
-    if 1 <= number <= len(items) and items[number - 1].state == NORMAL:
-        return items[number - 1]
-    return None
-
-
-def next_of(items, item):
-    """The item that a chain goes on with, or None."""
-    if not item.hot_updated:
-        return None
-    after = normal(items, item.ctid_item)
-    return after if after is not None and after.xmin == item.xmax else None
-
-
-def members_of(items, start):
-    """The numbers of the items of a start's chain."""
-    if start.state == REDIRECT:
-        item = normal(items, start.offset)
-    else:
-        item = start if start.state == NORMAL and not start.heap_only else None
-    members = set()
-    while item is not None and item.number not in members:
-        members.add(item.number)
-        item = next_of(items, item)
-    return members
-
-
-def rows_of(items):
-    """The live items of a page by number, each with the number of its root. A page with fault 5 or 6 raises it."""
-    greatest = {}
-    for start in items:
-        for number in members_of(items, start):
-            greatest[number] = start.number
-    rows = []
-    taken = set()
-    for item in items:
-        if item.state == NORMAL and item.state_of_row() == "live":
-            root = greatest.get(item.number) if item.heap_only else item.number
-            if root is None:
-                raise Fault(item.number, 5)
-            if root in taken:
-                raise Fault(item.number, 6)
-            taken.add(root)
-            rows.append((item, root))
-    return rows
-
-
-def key_of(item):
-    """The row's int4, or None where it can't be read."""
-    if item.has(0x0001) or item.attributes == 0 or item.length < item.hoff + 4:
-        return None
-    return int.from_bytes(item.page[item.offset + item.hoff :][:4], "little", signed=True)
-
-
-def b_tree_page(fields, lines, lower, upper, flags):
-    """A page with these bytes behind its header and these before its special space."""
-    header = bytes(12) + struct.pack("<HHHHI", lower, upper, 8176, 0x2004, 0)
-    hole = bytes(8176 - 24 - len(fields) - len(lines))
-    return header + fields + hole + lines + struct.pack("<IIIHH", 0, 0, 0, flags, 0)
-
-
-def meta_page(root):
-    fields = struct.pack("<IIIIIII4xdB7x", 0x053162, 4, root, 0, root, 0, 0, -1.0, 1)
-    return b_tree_page(fields, b"", 72, 8176, 8)
-
-
-def index_of(rows):
-    """The index file of rows, each a key, a block and a root, in ascending order."""
-    if not rows:
-        return meta_page(0)
-    pointers, tuples = b"", b""
-    for key, block, root in rows:
-        tuples = struct.pack("<HHHHi4x", block >> 16, block & 0xFFFF, root, 16, key) + tuples
-        pointers += struct.pack("<I", 8176 - len(tuples) | 1 << 15 | 16 << 17)
-    leaf = b_tree_page(pointers, tuples, 24 + len(pointers), 8176 - len(tuples), 1 | 2)
-    return meta_page(1) + leaf
-
-
-def heap_fault(block, item, cause):
+def heap_fault(block: int, item: int, cause: int) -> Answer:
     return Answer(HEAP_FAULT, f"heap block {block} item {item}: cause {cause}")
 
 
-def not_yet(form):
-    return Answer(NOT_YET, f"not yet: form {form}")
+class HeapFault(Exception):
+    """Block, item and cause."""
 
 
-def answer(heap):
-    """What a build answers to the bytes of a heap file."""
-    blocks = len(heap) // PAGE
+def rows_of_block(page: bytes, block: int, table: Table, index: Index) -> list[Row]:
+    """The rows of an index in a block."""
+    rows = []
+    try:
+        live = rows_of(read_items(page, len(table.columns)))
+    except Fault as fault:
+        raise HeapFault(block, *fault.args) from fault
+    kinds = [table.kind(column) for column in index.columns()]
+    for item, root in live:
+        try:
+            values = values_of(item, table, index.needed())
+        except Unread as unread:
+            raise HeapFault(block, item.number, *unread.args) from unread
+        if not keeps(index, values):
+            continue
+        row = Row(tuple(values[column] for column in index.columns()), (block, root))
+        if len(row_tuple(kinds, row)) > MOST_TUPLE:
+            raise HeapFault(block, item.number, TOO_WIDE)
+        rows.append(row)
+    return rows
+
+
+def first_clash(index: Index, rows: list[Row]) -> tuple[Row, Row] | None:
+    """The first two neighbours of sorted rows that a unique index takes once."""
+    count = len(index.keys)
+    for one, other in zip(rows, rows[1:]):
+        keys = one.values[:count]
+        if keys == other.values[:count] and not (index.nulls_distinct and None in keys):
+            return one, other
+    return None
+
+
+def statements(table: str, index: str) -> tuple[Table, Index] | Answer:
+    """What the statements describe, or how they are refused."""
+    number = 1
+    try:
+        described = read_table(table.encode())
+        number = 2
+        return described, read_index(index.encode(), described)
+    except Refused as refused:
+        place, cause = refused.args
+        return Answer(STATEMENT_FAULT, f"statement {number} at {place}: cause {cause}")
+
+
+def answer(heap: bytes, table: str = program.TABLE, index: str = program.INDEX) -> Answer:
+    """What a build answers to the bytes of a heap file and two statements."""
+    asked = statements(table, index)
+    if isinstance(asked, Answer):
+        return asked
+    described, spec = asked
+    if spec.method in FORMS:
+        return Answer(NOT_YET, f"not yet: form {FORMS[spec.method]}")
     if len(heap) > MOST_BLOCKS * PAGE:
         return heap_fault(MOST_BLOCKS, 0, 15)
+    blocks = len(heap) // PAGE
     if len(heap) % PAGE != 0:
         return heap_fault(blocks, 0, 14)
     rows = []
-    for block in range(blocks):
-        try:
-            items = read_items(heap[block * PAGE : (block + 1) * PAGE])
-            rows += [(key_of(item), block, root) for item, root in rows_of(items)]
-        except Fault as fault:
-            return heap_fault(block, *fault.args)
-    keys = [key for key, _, _ in rows]
-    if None in keys:
-        return not_yet(3)
-    if len(set(keys)) < len(keys):
-        return not_yet(4)
-    if len(rows) > MOST_ROWS:
-        return not_yet(5)
-    return Answer(BUILT, "", index_of(sorted(rows)))
+    try:
+        for block in range(blocks):
+            page = heap[block * PAGE : (block + 1) * PAGE]
+            rows += rows_of_block(page, block, described, spec)
+    except HeapFault as fault:
+        return heap_fault(*fault.args)
+    rows.sort(key=order_of(spec))
+    clash = first_clash(spec, rows) if spec.unique else None
+    if clash is not None:
+        first, second = ("({},{})".format(*row.pointer) for row in clash)
+        return Answer(DUPLICATE, f"duplicate key: {first} and {second}")
+    return Answer(BUILT, "", Tree(described, spec, rows).file(), len(rows))
 
 
-def main():
-    if len(sys.argv) not in (2, 3):
+def main() -> int:
+    if len(sys.argv) not in (2, 3, 5):
         raise SystemExit(__doc__)
     with open(sys.argv[1], "rb") as heap:
-        told = answer(heap.read())
+        told = answer(heap.read(), *sys.argv[3:])
     if told.error:
         print(told.error, file=sys.stderr)
-    if told.index is not None and len(sys.argv) == 3:
+    if told.index is not None and len(sys.argv) > 2:
         with open(sys.argv[2], "wb") as index:
             index.write(told.index)
     return told.status

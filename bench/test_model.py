@@ -1,6 +1,7 @@
 #!/usr/bin/env python3
 """Holds bench/model.py against cases whose answers are known: bench/test_model.py runs them."""
 
+import struct
 import sys
 import unittest
 
@@ -9,6 +10,7 @@ sys.dont_write_bytecode = True
 
 import heaps
 import model
+import model_heap
 
 # The answer to a heap without a fault.
 SOUND = None
@@ -31,9 +33,19 @@ def with_bytes(page, place, text):
 def roots_of(lines):
     """The items of a page's rows with their roots, or item and cause of its fault."""
     try:
-        return [(item.number, root) for item, root in model.rows_of(model.read_items(heaps.page(lines)))]
-    except model.Fault as fault:
+        items = model_heap.read_items(heaps.page(lines))
+        return [(item.number, root) for item, root in model_heap.rows_of(items)]
+    except model_heap.Fault as fault:
         return fault.args
+
+
+# The int4 5, and an empty array of int8 under a short header.
+FIVE_AND_INT8_ARRAY = "05 00 00 00 1b 00 00 00 00 00 00 00 00 14 00 00 00"
+
+
+def text_heap(length):
+    """A page of one text of so many bytes."""
+    return heaps.page([heaps.Tuple(item=1, data=struct.pack("<I", 4 * (length + 4)) + length * b"x")])
 
 
 class Model(unittest.TestCase):
@@ -67,11 +79,11 @@ class Model(unittest.TestCase):
             ("no hint bits of the insertion", 8096 + 20, "00 08", (3, 4)),
             ("hoff before hint bits", 8096 + 20, "00 08 10", (3, 3)),
             ("the lesser item before the lesser cause", 28, "04 00 01 00 a1 9f", (2, 2)),
-            ("a null bitmap", 8160 + 20, "01 09", "not yet: form 3"),
-            ("no attribute", 8160 + 18, "00 00", "not yet: form 3"),
-            ("length 24", 24, "e0 9f 30 00", "not yet: form 3"),
+            ("a null bitmap", 8160 + 20, "01 09", SOUND),
+            ("no attribute", 8160 + 18, "00 00", SOUND),
+            ("length 24", 24, "e0 9f 30 00", (1, 7)),
             ("a null bitmap before a fault", 8160 + 20, "01 09 10", (1, 3)),
-            ("equal keys", 8184, "0a 00 00 00", "not yet: form 4"),
+            ("equal keys", 8184, "0a 00 00 00", SOUND),
             ("heap-only without a chain", 8128 + 18, "01 80", (2, 5)),
             ("a bad line pointer of another row before it", 32, "a1 9f", (3, 2)),
         ]
@@ -83,7 +95,7 @@ class Model(unittest.TestCase):
         self.assertEqual(answer_of(b"\xff" * heaps.PAGE), (0, 1))
         self.assertEqual(answer_of(bytes(heaps.PAGE)), SOUND)
         unused = with_bytes(bytes(heaps.PAGE), 12, "00 20 00 20 00 20 04 20")
-        self.assertEqual(len(model.read_items(unused)), 2042)
+        self.assertEqual(len(model_heap.read_items(unused)), 2042)
 
     def test_hint_bits(self):
         cases = [
@@ -104,7 +116,7 @@ class Model(unittest.TestCase):
         for infomask, wanted in cases:
             with self.subTest(hex(infomask)):
                 page = heaps.page([heaps.Tuple(item=1, xmax=900, infomask=infomask)])
-                item = model.Item(page, 1)
+                item = model_heap.Item(page, 1)
                 item.read_header()
                 self.assertEqual(item.state_of_row(), wanted)
 
@@ -139,13 +151,126 @@ class Model(unittest.TestCase):
             (bad + sound[:-1], "heap block 1 item 0: cause 14"),
             (b"\0", "heap block 0 item 0: cause 14"),
             (with_bytes(sound, 8160 + 20, "01 09") + bad, "heap block 1 item 0: cause 1"),
-            (sound + sound, "not yet: form 4"),
-            (b"".join(heaps.live_pages(range(367))), ""),
-            (b"".join(heaps.live_pages(range(368))), "not yet: form 5"),
+            (sound + sound, ""),
+            (b"".join(heaps.live_pages(range(368))), ""),
         ]
         for number, (heap, wanted) in enumerate(cases):
             with self.subTest(number):
                 self.assertEqual(model.answer(heap).error, wanted)
+
+    def test_faults_of_statements(self):
+        table = "CREATE TABLE t (a int4, c int4[], b text)"
+        cases = [
+            ("CREATE INDEX i ON t (d)", 21, 3),
+            ("CREATE INDEX i ON t (a", 22, 2),
+            ("CREATE INDEX i ON t (a) WITH (fillfactor=9)", 41, 6),
+            ("CREATE UNIQUE INDEX i ON t USING brin (a)", 33, 5),
+            ("CREATE INDEX i ON t USING brin (a) INCLUDE (b)", 35, 5),
+            ("CREATE INDEX i ON x $", 18, 3),
+            ("CREATE INDEX i ON t (a) WHERE a = - 'x'", 36, 2),
+            ("CREATE INDEX i ON t (a) WHERE b = -1", 34, 5),
+            ("CREATE INDEX i ON t (a) WITH (null = 1)", 30, 5),
+            ("CREATE INDEX i ON t (a) WITH (fillfactor = null)", 43, 6),
+            ("CREATE INDEX i ON t (a) NULLS DISTINCT", 24, 5),
+            ("CREATE INDEX i ON t (c)", 21, 5),
+            ("CREATE INDEX i ON t USING gin (c, c)", 34, 5),
+            (f"CREATE INDEX i ON t ({', '.join(33 * 'a')})", 117, 5),
+            (f"CREATE INDEX i ON t (a) WHERE {17 * '('}a = 1{17 * ')'}", 46, 2),
+        ]
+        for text, place, cause in cases:
+            with self.subTest(text):
+                wanted = f"statement 2 at {place}: cause {cause}"
+                self.assertEqual(model.answer(b"", table, text).error, wanted)
+        for text, place, cause in [
+            ("CREATE TABLE t (a int5)", 18, 4),
+            ("CREATE TABLE t (a int5 $", 18, 4),
+            ("CREATE TABLE t (a double $", 25, 1),
+            ("CREATE TABLE t (a double)", 18, 4),
+            ("CREATE TABLE t (a bool[])", 22, 2),
+            ("CREATE TABLE t (a time with time zone)", 23, 2),
+            ("CREATE TABLE t (a timestamp with", 18, 4),
+            ("CREATE TABLE t (a int4, a int4)", 24, 7),
+            (65537 * " ", 65536, 1),
+        ]:
+            with self.subTest(text[:40]):
+                wanted = f"statement 1 at {place}: cause {cause}"
+                self.assertEqual(model.answer(b"", text).error, wanted)
+
+    def test_faults_of_values(self):
+        cases = [
+            ("text", "(a)", "01" + 17 * " 12", 9),
+            ("text", "(a)", "01 13" + 16 * " 00", 9),
+            ("text", "(a)", "01 12", 7),
+            ("text", "(a)", "32 00 00 00 09 00 00 00 01 02 03 04", 8),
+            ("text", "(a)", "0d 78", 7),
+            ("bool", "(a)", "02", 10),
+            ("int4, c int4[]", "(a) WHERE c IS NULL", FIVE_AND_INT8_ARRAY, 11),
+            ("int4, c int4[]", "(a)", FIVE_AND_INT8_ARRAY, None),
+        ]
+        for columns, keys, text, cause in cases:
+            with self.subTest(columns + keys + text):
+                row = heaps.Tuple(item=1, infomask2=columns.count(",") + 1, data=bytes.fromhex(text))
+                table = f"CREATE TABLE t (a {columns})"
+                told = model.answer(heaps.page([row]), table, f"CREATE INDEX i ON t {keys}")
+                wanted = "" if cause is None else f"heap block 0 item 1: cause {cause}"
+                self.assertEqual(told.error, wanted)
+
+    def test_texts_as_keys(self):
+        for length, size, start in [
+            (126, 136, "88 40 ff 78"),
+            (127, 144, "90 40 0c 02 00 00 78"),
+            (2692, 2704, "90 4a 20 2a 00 00 78"),
+        ]:
+            with self.subTest(length):
+                index = model.answer(text_heap(length), "CREATE TABLE t (a text)").index
+                at = 2 * heaps.PAGE - 16 - size
+                self.assertEqual(index[at : at + 6].hex(" "), "00 00 00 00 01 00")
+                self.assertTrue(index[at + 6 :].startswith(bytes.fromhex(start)))
+        refused = model.answer(text_heap(2693), "CREATE TABLE t (a text)")
+        self.assertEqual(refused.error, "heap block 0 item 1: cause 12")
+
+    def test_clashes(self):
+        def rows(*keys):
+            null = heaps.Tuple(item=1, data=b"", bitmap=b"\0")
+            return heaps.page([null if key is None else heaps.Tuple(item=1, key=key) for key in keys])
+
+        unique = "CREATE UNIQUE INDEX i ON t (a)"
+        cases = [
+            (rows(3, 1, 3, 1), unique, "duplicate key: (0,2) and (0,4)"),
+            (rows(None, None), unique, ""),
+            (rows(None, None), unique + " NULLS NOT DISTINCT", "duplicate key: (0,1) and (0,2)"),
+            (rows(1, 1, 2), unique + " WHERE a > 1", ""),
+        ]
+        for heap, statement, wanted in cases:
+            with self.subTest(statement + wanted):
+                self.assertEqual(model.answer(heap, index=statement).error, wanted)
+
+    def test_levels(self):
+        """Rows with one key or a key each, whose pages break: the blocks, and bytes at places."""
+        cases = [
+            ("a leaf that is full", range(1, 368), 2, [(8192 + 12, "d4 05 00 09")]),
+            ("a key more", range(1, 369), 4, [
+                (32, "03 00 00 00 01 00 00 00 03 00 00 00 01 00 00 00"),
+                (8192 + 2304, "00 00 00 00 01 00 10 20 6f 01 00 00 00 00 00 00"),
+                (8192 + 8176, "00 00 00 00 02 00 00 00 00 00 00 00 01 00"),
+                (3 * 8192 + 8152, "00 00 02 00 01 00 10 20 6f 01 00 00 00 00 00 00"),
+                (3 * 8192 + 8168, "00 00 01 00 00 00 08 20"),
+            ]),
+            ("rows of one tuple", 132 * [7], 2, [
+                (8192 + 7368, "00 00 10 00 84 20 28 23 07 00 00 00 00 00 00 00"),
+            ]),
+            ("rows of eleven", 1321 * [7], 4, [
+                (8192 + 880, "00 00 00 00 01 10 18 20 07 00 00 00 00 00 00 00 00 00 00 00 05 00 3a 00"),
+                (2 * 8192 + 7352, "00 00 05 00 bf 00 10 00 07 00 00 00"),
+            ]),
+        ]  # fmt: skip
+        for name, keys, blocks, pieces in cases:
+            with self.subTest(name):
+                index = model.answer(b"".join(heaps.live_pages(keys))).index
+                self.assertEqual(len(index), blocks * heaps.PAGE)
+                for place, text in pieces:
+                    piece = bytes.fromhex(text)
+                    self.assertEqual(index[place : place + len(piece)].hex(" "), text)
 
     def test_index_of_three_rows(self):
         index = bytearray(2 * heaps.PAGE)
