@@ -6,3 +6,5 @@ pub mod Joins
 pub mod Keeping
 -- a pivot separates its neighbours
 pub mod Separation
+-- tuples filled up with zeros
+pub mod Filling

@@ -24,6 +24,11 @@ pub data_end-within : (kinds : List ColType) (values : List KeyVal) → data_end
 unfolding size_of
 data_end-within kinds values = omega arith
 
+-- and fewer than eight bytes more
+pub data_end-near : (kinds : List ColType) (values : List KeyVal) → size_of kinds values < data_end kinds values + 8
+unfolding size_of
+data_end-near kinds values = omega arith
+
 pub data-below : (kinds : List ColType) (values : List KeyVal) → size_of kinds values ≤ 2704 → length (data_of kinds values) < 2 ^ 30
 data-below kinds values small = let within = data_end-within kinds values in omega arith
 

@@ -33,6 +33,7 @@ pub fn posting(
 
 /// Puts the tuple of several rows with the same keys behind the bytes of a buffer. An error means
 /// that no memory was left, and then the buffer's bytes are as before.
+#[inline(never)]
 pub fn put_posting(
     out: &mut Vec<u8>,
     kinds: &[ColType],

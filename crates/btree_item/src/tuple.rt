@@ -86,15 +86,17 @@ pub(crate) fn put_tuple(
     fill_up(out, end)
 }
 
-// Puts zeros up to an end.
-#[tactic(auto, unfolding(pg_bytes::specs::Places::zeros))]
+// Puts zeros up to an end, fewer than a tuple's size is a multiple of.
 pub(crate) fn fill_up(out: &mut Vec<u8>, end: usize) -> Result<(), AllocError>
-    requires { length out.old.items ≤ end }
+    requires behind { length out.old.items ≤ end }
+    requires near { end < length out.old.items + 8 }
     ensures ok { OnOk result
         (out.new.items ≡ out.old.items ++ zeros (end - length out.old.items)) }
     ensures err { OnErr result (out.new.items ≡ out.old.items) }
 {
-    out.resize(end, 0)
+    out.extend_from_slice(&[0; 8])?;
+    out.truncate(end);
+    Ok(())
 }
 
 // Puts the row pointer, or what stands in its place, and `t_info`.
@@ -124,6 +126,7 @@ fn put_bitmap(out: &mut Vec<u8>, values: &[KeyVal]) -> Result<(), AllocError>
 }
 
 // The null bitmap and the zeros behind it.
+#[inline(never)]
 #[tactic(auto, unfolding(pg_bytes::specs::Numbers::number_bytes, pg_bytes::specs::Places::zeros))]
 fn bitmap(values: &[KeyVal]) -> [u8; 8]
     requires { length values.now ≤ 32 }

@@ -146,6 +146,8 @@ impl Grouper {
     }
 
     // The high key of the open leaf, whose last tuple is that of the last group.
+    #[cold]
+    #[inline(never)]
     fn high_key(&self) -> Result<Vec<u8>, AllocError>
         requires ready { IsReady self.now }
         requires leaf { 0 < length (packing_of self.now.tower).pages }
@@ -164,13 +166,23 @@ impl Grouper {
 }
 
 // Puts values behind others.
-fn append(values: &mut KeyList, mut extra: KeyList) -> Result<(), AllocError>
+fn append(values: &mut KeyList, extra: KeyList) -> Result<(), AllocError>
+    ensures { OnOk result (values.new ≡ values.old ++ extra) }
+{
+    if extra.len() == 0 {
+        return Ok(());
+    }
+    append_all(values, extra)
+}
+
+// The same, for a list that has some as a rule.
+fn append_all(values: &mut KeyList, mut extra: KeyList) -> Result<(), AllocError>
     ensures { OnOk result (values.new ≡ values.old ++ extra) }
 {
     let Some(last) = extra.pop() else {
         return Ok(());
     };
-    append(values, extra)?;
+    append_all(values, extra)?;
     match values.push(last) {
         Ok(()) => Ok(()),
         Err(_) => Err(AllocError),

@@ -74,6 +74,8 @@ impl OpenTower {
     /// Finishes the open leaf with a high key. Its last tuple goes over to the next leaf, to which
     /// this tuple is added. What the vector has then isn't said. An error means that no memory was
     /// left.
+    #[cold]
+    #[inline(never)]
     pub fn turn(
         &mut self,
         high_key: Vec<u8>,
@@ -116,6 +118,8 @@ impl OpenTower {
     }
 
     // The first leaf. Nothing is below its first key, which minus infinity stands for.
+    #[cold]
+    #[inline(never)]
     fn begin_leaves(&mut self, tuple: &[u8], extra: usize) -> Result<(), AllocError>
         requires none { self.old.pages.items ≡ [] }
         requires tuple { IsTuple tuple.now }

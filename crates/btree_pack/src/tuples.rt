@@ -60,9 +60,9 @@ impl Tuples {
         ensures ok { OnOk result (self.new ≡ self.old ++ tuple.now ∷ []) }
         ensures err { OnErr result (self.new ≡ self.old) }
     {
-        self.bytes.reserve(tuple.len())?;
-        self.sizes.push(tuple.len() as u16)?;
+        self.sizes.reserve(1)?;
         self.bytes.extend_from_slice(tuple)?;
+        self.sizes.push_reserved(tuple.len() as u16);
         Ok(())
     }
 

@@ -5,8 +5,20 @@ use Rattle.btree_item.specs.Leaf.{posting_mark, posting_size}
 use Rattle.btree_item.proofs.Joins.{HasPointers, length-HasPointers, posting-joined}
 use Rattle.btree_item.proofs.posting_tuple.put_parts.Goals as goal
 
-pub fill_up-requires : goal.fill_up-requires
-fill_up-requires c =
+pub fill_up-requires-clause-behind : goal.fill_up-requires-clause-behind
+fill_up-requires-clause-behind c =
+    let info : ℕ = c.al8-size.result + no_row_mark + c.marks.result in
+    let put : HasPointers c.args.out.now.items c.put_tuple.new.out.items c.put_pointers.new.out.items c.args.kinds.now c.args.keys.now c.args.ptrs.now info = record {
+      tuple =
+          c.in_ok-put_tuple.ensures.ok
+          ∙ ap (λ size. c.args.out.now.items ++ index_tuple (record { block = size; offset = length c.args.ptrs.now + posting_mark }) info c.args.kinds.now c.args.keys.now) c.tuple_size-keys_size.ensures;
+      pointers = c.in_ok-put_pointers.ensures.ok;
+    } in
+    let behind = length-HasPointers _ _ _ _ _ _ _ put in
+    omega (arith, c.len-start.ensures, c.tuple_size-keys_size.ensures, c.al8-size.ensures)
+
+pub fill_up-requires-clause-near : goal.fill_up-requires-clause-near
+fill_up-requires-clause-near c =
     let info : ℕ = c.al8-size.result + no_row_mark + c.marks.result in
     let put : HasPointers c.args.out.now.items c.put_tuple.new.out.items c.put_pointers.new.out.items c.args.kinds.now c.args.keys.now c.args.ptrs.now info = record {
       tuple =
