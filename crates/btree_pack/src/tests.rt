@@ -1,4 +1,7 @@
-mod packed_rows;
+mod cases;
+mod columns;
+mod groups;
+mod values;
 
 use crate::OpenTower;
 use pg_bytes::{IndexImage, u32_at};

@@ -1,5 +1,7 @@
 -- What a value takes from a place on.
 use Rattle.std.proofs.Common.{◌≡◌, ℕ, zero, suc, ◌+◌, ◌-◌, ◌*◌, ◌^◌, ◌<◌, ◌≤◌, ℤ, nat_le, true, false, if◌then◌else◌, Some, None, List, [], ◌∷◌, ◌++◌, length, take, refl, sym, ap, subst, ◌∙◌, inl, inr, arith, length-append}
+use Rattle.std.proofs.Math.Seq.{take-append-add}
+use Rattle.std.proofs.lemmas.List.{append_assoc}
 use Rattle.std.specs.Int.{w64, cast_unsigned, byte_at, bytes_low_first}
 use Rattle.std.proofs.lemmas.Bool.Decides.{nat_tests}
 use Rattle.pg_bytes.specs.Numbers.{number_bytes, rounded_up}
@@ -99,6 +101,18 @@ take-bytes_low_first i (suc k) (suc n) x h = ap (λ bytes. byte_at i x ∷ bytes
 pub number_bytes-front : (width x : ℕ) → width ≤ 8 → take width (number_bytes 8 x) ≡ number_bytes width x
 unfolding number_bytes
 number_bytes-front width x h = take-bytes_low_first 0 width 8 x h
+
+-- bytes of which those behind the first were cut off
+pub cut-behind : (old pad bytes : List ℕ) (count width : ℕ) → length bytes ≡ count → width ≤ count
+    → take (length (old ++ (pad ++ bytes)) - (count - width)) (old ++ (pad ++ bytes)) ≡ old ++ (pad ++ take width bytes)
+cut-behind old pad bytes count width counted within =
+    let grouped : old ++ (pad ++ bytes) ≡ (old ++ pad) ++ bytes = sym (append_assoc old pad bytes) in
+    let all = length-append (old ++ pad) bytes in
+    let at : length ((old ++ pad) ++ bytes) - (count - width) ≡ length (old ++ pad) + width = omega arith in
+    ap (λ whole. take (length whole - (count - width)) whole) grouped
+    ∙ ap (λ n. take n ((old ++ pad) ++ bytes)) at
+    ∙ take-append-add (old ++ pad) bytes width
+    ∙ append_assoc old pad (take width bytes)
 
 -- ---- what a call knows of a value, and what follows of its piece
 

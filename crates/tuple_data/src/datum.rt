@@ -102,7 +102,7 @@ pub(crate) fn put_piece(
     }
 }
 
-// Puts a number of so many bytes.
+// Puts a number of so many bytes, as eight of which those behind its own are cut off.
 fn put_number(
     out: &mut Vec<u8>,
     start: usize,
@@ -120,8 +120,9 @@ fn put_number(
     if width > NUMBER_MOST {
         return Ok(());
     }
-    let bytes = number_bytes(number);
-    put_aligned(out, start, alignment, &bytes[..usize::from(width)])
+    put_aligned(out, start, alignment, &number_bytes(number))?;
+    out.truncate(out.len() - usize::from(NUMBER_MOST - width));
+    Ok(())
 }
 
 // The bytes of a number in two's complement, low byte first.
@@ -191,6 +192,7 @@ fn long_header(count: usize) -> [u8; 4]
 }
 
 // Puts bytes at the next multiple of an alignment, with zeros before them.
+#[inline(always)]
 #[tactic(auto, unfolding(pg_bytes::specs::Places::zeros))]
 fn put_aligned(
     out: &mut Vec<u8>,

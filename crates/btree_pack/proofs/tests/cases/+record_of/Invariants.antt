@@ -1,5 +1,5 @@
 use Rattle.std.proofs.Common.{length}
-use Rattle.btree_pack.proofs.tests.packed_rows.+record_of.Given as goal
+use Rattle.btree_pack.proofs.tests.cases.+record_of.Given as goal
 
 abbrev pub decreases-record_of : goal.decreases-record_of
 decreases-record_of l = length l.values

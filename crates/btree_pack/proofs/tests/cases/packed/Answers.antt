@@ -3,7 +3,7 @@ use Rattle.opclass.specs.declared.types.ColType.{ColType}
 use Rattle.btree_pack.specs.Pass.Put.{HasPut}
 use Rattle.btree_pack.specs.Pass.Taken.{IsRowOf, row_of}
 use Rattle.btree_pack.proofs.RowsTaken.{takes_row}
-use Rattle.btree_pack.proofs.tests.packed_rows.packed.Goals as goal
+use Rattle.btree_pack.proofs.tests.cases.packed.Goals as goal
 
 pub loop-number-init : goal.loop-number-init
 loop-number-init g c =
