@@ -79,12 +79,12 @@ module _ (reader : ReaderView) (heap : List ℕ) (scan : ScanState) where
   -- after a claim that has a block, once its blocks are taken
   pub between_some : (old new : Share) (seat : SeatState) (claim : Claim) (end : ℕ) → IsBetweenClaims reader heap scan old
       → seat.view.claims ≡ old.seat.view.claims ++ claim ∷ [] → seat.view.reports ≡ old.seat.view.reports
-      → seat.view.seen ≤ old.seat.view.seen → claim.first < block_count heap
-      → end ≡ min (block_count heap) (claim.first + claim.size) → new.seat.view.claims ≡ seat.view.claims
+      → seat.view.seen ≤ old.seat.view.seen → length seat.view.claims ≤ scan.blocks + scan.seats
+      → claim.first < block_count heap → end ≡ min (block_count heap) (claim.first + claim.size) → new.seat.view.claims ≡ seat.view.claims
       → new.rows ≤ old.rows + 2 ^ 33 → IsWorker reader scan new
       → TakesBlocks reader heap (range_with_len claim.first (end - claim.first)) (record old { seat = seat }) new
       → IsBetweenClaims reader heap scan new
-  between_some old new seat claim end before claims reports falls inside end_is same rows worker taken =
+  between_some old new seat claim end before claims reports falls few inside end_is same rows worker taken =
       let blocks = block_count heap in
       let here : range_with_len claim.first (end - claim.first) ≡ blocks_of_claim blocks claim =
       ap (λ (n : ℕ). range_with_len claim.first (n - claim.first)) end_is ∙ sym (some_below blocks claim.first claim.size inside) in
@@ -92,32 +92,35 @@ module _ (reader : ReaderView) (heap : List ℕ) (scan : ScanState) where
       ap (λ (ns : List ℕ). claimed_blocks blocks old.seat.view.claims ++ ns) here
       ∙ sym (claimed_push blocks old.seat.view.claims claim) ∙ sym (ap (claimed_blocks blocks) (same ∙ claims)) in
       let count = ap length (same ∙ claims) ∙ length-append old.seat.view.claims (claim ∷ []) in
-      let few = before.few in
+      let fewer = before.few_rows in
+      let same_count = ap length same in
       record {
         worker = worker;
         taken = subst (λ (ns : List ℕ). HasTaken reader heap ns new) all
             (taken (claimed_blocks blocks old.seat.view.claims) (seen_more old seat (claimed_blocks blocks old.seat.view.claims) reports falls before.taken));
         few = omega arith;
+        few_rows = omega arith;
       }
 
   -- after a claim that has none
   pub between_none : (old : Share) (seat : SeatState) (claim : Claim) → IsBetweenClaims reader heap scan old
       → seat.view.claims ≡ old.seat.view.claims ++ claim ∷ [] → seat.view.reports ≡ old.seat.view.reports
-      → seat.view.seen ≤ old.seat.view.seen → block_count heap ≤ claim.first
-      → IsWorker reader scan (record old { seat = seat }) → IsBetweenClaims reader heap scan (record old { seat = seat })
-  between_none old seat claim before claims reports falls past worker =
+      → seat.view.seen ≤ old.seat.view.seen → length seat.view.claims ≤ scan.blocks + scan.seats
+      → block_count heap ≤ claim.first → IsWorker reader scan (record old { seat = seat }) → IsBetweenClaims reader heap scan (record old { seat = seat })
+  between_none old seat claim before claims reports falls small past worker =
       let blocks = block_count heap in
       let all : claimed_blocks blocks old.seat.view.claims ≡ claimed_blocks blocks seat.view.claims =
       sym (ap (claimed_blocks blocks) claims ∙ claimed_push blocks old.seat.view.claims claim
       ∙ ap (λ (ns : List ℕ). claimed_blocks blocks old.seat.view.claims ++ ns) (none_below blocks claim.first claim.size past)
       ∙ append-nil (claimed_blocks blocks old.seat.view.claims)) in
       let count = ap length claims ∙ length-append old.seat.view.claims (claim ∷ []) in
-      let few = before.few in
+      let fewer = before.few_rows in
       record {
         worker = worker;
         taken = subst (λ (ns : List ℕ). HasTaken reader heap ns (record old { seat = seat })) all
             (seen_more old seat (claimed_blocks blocks old.seat.view.claims) reports falls before.taken);
-        few = omega arith;
+        few = small;
+        few_rows = omega arith;
       }
 
   -- the worker, where its seat made a claim

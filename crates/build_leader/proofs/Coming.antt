@@ -30,12 +30,12 @@ use Rattle.build_leader.proofs.Inserting.{in_order}
 
 -- ---- places in lists that are joined
 
-get-left : {X : Type 0} (xs ys : List X) (place : ℕ) → place < length xs → slice_get (xs ++ ys) place ≡ slice_get xs place
+pub get-left : {X : Type 0} (xs ys : List X) (place : ℕ) → place < length xs → slice_get (xs ++ ys) place ≡ slice_get xs place
 get-left [] ys place inside = absurd (omega arith)
 get-left (x ∷ xs) ys zero inside = refl
 get-left (x ∷ xs) ys (suc place) inside = get-left xs ys place (omega arith)
 
-get-right : {X : Type 0} (xs ys : List X) (place : ℕ) → slice_get (xs ++ ys) (length xs + place) ≡ slice_get ys place
+pub get-right : {X : Type 0} (xs ys : List X) (place : ℕ) → slice_get (xs ++ ys) (length xs + place) ≡ slice_get ys place
 get-right [] ys place = ap (λ (k : ℕ). slice_get ys k) (omega arith)
 get-right (x ∷ xs) ys place =
     (let e : length (x ∷ xs) + place ≡ suc (length xs + place) = omega arith in

@@ -28,9 +28,13 @@ pub mod Counting
 pub mod SharedRows
 -- the rows that a scan left on tapes
 pub mod ScannedRows
+-- the parts of a merge by ranges
+pub mod Parts
 -- what a worker has, block by block
 pub mod Working
 -- and claim by claim
 pub mod Claiming
--- what it comes to at the end
+-- what workers have together
+pub mod Teaming
+-- what all of them come to at the end
 pub mod Finishing

@@ -1,9 +1,9 @@
 -- The rows that a scan left on the workers' tapes are those of the heap.
-use Rattle.std.proofs.Common.{◌≡◌, ℕ, suc, ◌+◌, List, [], ◌∷◌, ◌++◌, length, map, Some, refl, sym, ap, subst, ◌∙◌, arith, get_or}
+use Rattle.std.proofs.Common.{◌≡◌, ℕ, suc, ◌+◌, List, [], ◌∷◌, ◌++◌, length, map, Some, refl, sym, ap, subst, ◌∙◌, arith, get_or, All}
 use Rattle.std.specs.Prelude.{slice_get}
 use Rattle.std.specs.List.{range_with_len}
 use Rattle.std.specs.List.Sorted.{IsPermutation}
-use Rattle.std.proofs.lemmas.List.Elements.{All-weaker}
+use Rattle.std.proofs.lemmas.List.Elements.{All-append, All-head, All-nil, All-tail, All-weaker}
 use Rattle.std.proofs.lemmas.List.Sorted.{All-permutation, IsPermutation-append, IsPermutation-refl, IsPermutation-trans, length_permutation}
 use Rattle.std.proofs.lemmas.Option.{slice_get-get_or}
 use Rattle.block_claim.specs.declared.claim.Claim.{Claim}
@@ -13,7 +13,8 @@ use Rattle.opclass.specs.declared.spec.SortPart.{SortPart}
 use Rattle.opclass.specs.declared.types.ColType.{ColType}
 use Rattle.shared_tape.specs.declared.stored.Record.{Record}
 use Rattle.shared_tape.specs.Runs.{RunView, records_of}
-use Rattle.spool.specs.Spools.{IsBoundedRun}
+use Rattle.shared_tape.specs.Stored.{IsStorable}
+use Rattle.spool.specs.Spools.{AreBoundedRuns, IsBoundedRun}
 use Rattle.run_merge.specs.Sorted.{AllHaveOrder, IsSortedRecords, all_records}
 use Rattle.btree_pack.specs.Images.{images_of}
 use Rattle.btree_pack.specs.Nodes.{btree_file}
@@ -23,7 +24,7 @@ use Rattle.build_leader.specs.declared.fault.LeadFault.TheVariants as lead
 use Rattle.build_leader.specs.declared.plan.Plan.{Plan}
 use Rattle.build_leader.specs.declared.scanned.Scanned.{Scanned}
 use Rattle.build_leader.specs.Blocks.{block_count}
-use Rattle.build_leader.specs.Calls.{IsBuilt, IsLeadFault, IsOpenedFor, IsPlan, IsScanned, IsTapeOf}
+use Rattle.build_leader.specs.Calls.{AreTapesFrom, IsBuilt, IsLeadFault, IsOpenedFor, IsPlan, IsScanned, IsTapeOf}
 use Rattle.build_leader.specs.HeapRows.{AreHeapRows}
 use Rattle.build_leader.specs.IndexRow.{index_kinds}
 use Rattle.build_leader.specs.Laws.{AreRowsOfWorkers, ClaimsShareTheRows}
@@ -32,19 +33,14 @@ use Rattle.build_leader.specs.Pass.{AreRowsOf, IsPackFault, IsPackedFile}
 use Rattle.build_leader.proofs.IndexRecords.{heap_rows_taken}
 
 module _ (plan : Plan) (heap : List ℕ) (claims : List Claim) where
-  -- the tapes of workers numbered from here on
-  abbrev AreTapesFrom : ℕ → List (List RunView) → Type 0
-  AreTapesFrom first tapes =
-      (place : ℕ) (tape : List RunView) → slice_get tapes place ≡ Some tape → IsTapeOf plan heap claims (first + place) tape
-
-  behind : (first : ℕ) (tape : List RunView) (tapes : List (List RunView)) → AreTapesFrom first (tape ∷ tapes)
-      → AreTapesFrom (first + 1) tapes
+  behind : (first : ℕ) (tape : List RunView) (tapes : List (List RunView)) → AreTapesFrom plan heap claims first (tape ∷ tapes)
+      → AreTapesFrom plan heap claims (first + 1) tapes
   behind first tape tapes each place other at =
       subst (λ (worker : ℕ). IsTapeOf plan heap claims worker other)
       (let e : first + suc place ≡ (first + 1) + place = omega arith in e)
       (each (suc place) other at)
 
-  of_first : (first : ℕ) (tape : List RunView) (tapes : List (List RunView)) → AreTapesFrom first (tape ∷ tapes)
+  of_first : (first : ℕ) (tape : List RunView) (tapes : List (List RunView)) → AreTapesFrom plan heap claims first (tape ∷ tapes)
       → IsTapeOf plan heap claims first tape
   of_first first tape tapes each =
       subst (λ (worker : ℕ). IsTapeOf plan heap claims worker tape) (let e : first + 0 ≡ first = omega arith in e)
@@ -56,7 +52,7 @@ module _ (plan : Plan) (heap : List ℕ) (claims : List Claim) where
     pub of_workers : AreRowsOfWorkers plan.table plan.spec heap claims (range_with_len first (length tapes)) rows
     pub same : IsPermutation rows (all_records tapes)
 
-  shared : (first : ℕ) (tapes : List (List RunView)) → AreTapesFrom first tapes → IsShared first tapes
+  shared : (first : ℕ) (tapes : List (List RunView)) → AreTapesFrom plan heap claims first tapes → IsShared first tapes
   shared first [] each = record { rows = []; of_workers = refl; same = IsPermutation-refl [] }
   shared first (tape ∷ tapes) each =
       let here = of_first first tape tapes each in
@@ -66,7 +62,29 @@ module _ (plan : Plan) (heap : List ℕ) (claims : List Claim) where
         same = IsPermutation-append here.rows (records_of tape) rest.rows (all_records tapes) here.same rest.same;
       }
 
-  have_order : (tapes : List (List RunView)) → AreTapesFrom 0 tapes → AllHaveOrder (order_of_index plan.spec) tapes
+  -- each record on them can be stored
+  of_run : (run : RunView) → IsBoundedRun (order_of_index plan.spec) plan.run_rows run
+      → All (IsStorable (order_of_index plan.spec)) run.records
+  of_run run bounded =
+      subst (λ (order : List SortPart). All (IsStorable order) run.records) bounded.same_order bounded.sorted.storable
+
+  of_runs : (runs : List RunView) → AreBoundedRuns (order_of_index plan.spec) plan.run_rows runs
+      → All (IsStorable (order_of_index plan.spec)) (records_of runs)
+  of_runs [] bounded = All-nil (IsStorable (order_of_index plan.spec))
+  of_runs (run ∷ runs) bounded =
+      All-append (IsStorable (order_of_index plan.spec)) run.records (records_of runs)
+      (of_run run (All-head (IsBoundedRun (order_of_index plan.spec) plan.run_rows) run runs bounded))
+      (of_runs runs (All-tail (IsBoundedRun (order_of_index plan.spec) plan.run_rows) run runs bounded))
+
+  are_storable : (first : ℕ) (tapes : List (List RunView)) → AreTapesFrom plan heap claims first tapes
+      → All (IsStorable (order_of_index plan.spec)) (all_records tapes)
+  are_storable first [] each = All-nil (IsStorable (order_of_index plan.spec))
+  are_storable first (tape ∷ tapes) each =
+      All-append (IsStorable (order_of_index plan.spec)) (records_of tape) (all_records tapes)
+      (of_runs tape (of_first first tape tapes each).runs)
+      (are_storable (first + 1) tapes (behind first tape tapes each))
+
+  have_order : (tapes : List (List RunView)) → AreTapesFrom plan heap claims 0 tapes → AllHaveOrder (order_of_index plan.spec) tapes
   have_order tapes each place d inside =
       let tape = get_or tapes place d in
       All-weaker (IsBoundedRun (order_of_index plan.spec) plan.run_rows) (λ run. run.order ≡ order_of_index plan.spec)
@@ -74,20 +92,18 @@ module _ (plan : Plan) (heap : List ℕ) (claims : List Claim) where
       (each place tape (slice_get-get_or tapes place d inside)).runs
 
 module _ (plan : Plan) (heap : List ℕ) (scan : ScanState) (scanned : Scanned) (is : IsScanned plan heap scan scanned) where
-  from_none : AreTapesFrom plan heap scanned.seat.view.claims 0 scanned.tapes
-  from_none place tape at =
-      subst (λ (worker : ℕ). IsTapeOf plan heap scanned.seat.view.claims worker tape)
-      (let e : place ≡ 0 + place = omega arith in e) (is.each place tape at)
+  pub tapes_storable : All (IsStorable (order_of_index plan.spec)) (all_records scanned.tapes)
+  tapes_storable = are_storable plan heap scanned.seat.view.claims 0 scanned.tapes is.each
 
   pub tapes_have_order : AllHaveOrder (order_of_index plan.spec) scanned.tapes
-  tapes_have_order = have_order plan heap scanned.seat.view.claims scanned.tapes from_none
+  tapes_have_order = have_order plan heap scanned.seat.view.claims scanned.tapes is.each
 
   module _ (law : ClaimsShareTheRows) (seats : List SeatState) (opened : IsOpenedFor plan heap scan seats) where
     -- the rows of the heap stand on the tapes, each once
     on_tapes : (rows : List Record) → AreHeapRows plan.table plan.spec heap rows
         → IsPermutation rows (all_records scanned.tapes)
     on_tapes rows are =
-        let all = shared plan heap scanned.seat.view.claims 0 scanned.tapes from_none in
+        let all = shared plan heap scanned.seat.view.claims 0 scanned.tapes is.each in
         let seat_count : length scanned.tapes ≡ scan.seats = is.count ∙ sym opened.workers in
         let legal : IsLegal (block_count heap) scan.seats scanned.seat.view.claims =
         subst (λ (blocks : ℕ). IsLegal blocks scan.seats scanned.seat.view.claims) opened.blocks is.seat.legal in

@@ -19,12 +19,12 @@ use Rattle.build_leader.specs.Claimed.{AreClaimedRows}
 use Rattle.build_leader.specs.HeapRows.{AreHeapRows, HasSoundBlocks}
 use Rattle.build_leader.specs.Outcome.{Faulty, Duplicate, Sorted, HasBuildOutcome, index_file, order_of_index}
 
--- A plan that is carried out so far: a B-tree, and no worker beside the leader.
+-- A plan that is carried out so far: a B-tree, with at most 31 workers beside the leader.
 pub record IsPlan (plan : Plan) : Type 0 where
   pub table : IsTable plan.table
   pub index : IsIndexOver plan.table plan.spec
   pub method : plan.spec.method ≡ BTree
-  pub workers : plan.workers ≡ 0
+  pub workers : plan.workers ≤ 31
   pub run_rows : 1 ≤ plan.run_rows
 
 -- a scan that was opened for the blocks of a heap and the workers of a plan, with all its seats
@@ -48,6 +48,12 @@ pub record IsTapeOf (plan : Plan) (heap : List ℕ) (claims : List Claim) (worke
   pub same : IsPermutation rows (records_of tape)
   pub runs : AreBoundedRuns (order_of_index plan.spec) plan.run_rows tape
 
+-- tapes of workers numbered from one on: each has the rows that its worker claimed
+abbrev pub AreTapesFrom : Plan → List ℕ → List Claim → ℕ → List (List RunView) → Type 0
+AreTapesFrom plan heap claims first tapes =
+    (place : ℕ) (tape : List RunView) → slice_get tapes place ≡ Some tape
+    → IsTapeOf plan heap claims (first + place) tape
+
 -- a count is that of the rows of an index over a heap
 abbrev pub CountsRows : Plan → List ℕ → ℕ → Type 0
 CountsRows plan heap count =
@@ -58,8 +64,7 @@ pub record IsScanned (plan : Plan) (heap : List ℕ) (scan : ScanState) (scanned
   pub seat : IsFinished scan scanned.seat
   pub sound : HasSoundBlocks plan.table plan.spec heap
   pub count : length scanned.tapes ≡ plan.workers + 1
-  pub each : (worker : ℕ) (tape : List RunView) → slice_get scanned.tapes worker ≡ Some tape
-      → IsTapeOf plan heap scanned.seat.view.claims worker tape
+  pub each : AreTapesFrom plan heap scanned.seat.view.claims 0 scanned.tapes
   pub rows : CountsRows plan heap scanned.rows
 
 -- why it wasn't: its first fault, or want of memory

@@ -18,7 +18,11 @@ pub mod Reader
 pub mod Scanning
 -- what the calls ask and answer
 pub mod Calls
+-- what workers have together at the end of a scan
+pub mod Teams
 -- what holds of all these
 pub mod Laws
+-- what the merge by ranges keeps
+pub mod Merging
 -- what the pass over sorted rows keeps
 pub mod Pass

@@ -88,13 +88,32 @@ pub record HasRowsOf (table : Table) (spec : IndexSpec) (heap : List ℕ) (block
   pub same : IsPermutation rows records
   pub counted : count ≡ length rows
 
--- What a worker has that was at these blocks. As long as it has seen no report, it has their rows.
-pub record HasTaken (reader : ReaderView) (heap : List ℕ) (blocks : List ℕ) (share : Share) : Type 0 where
-  pub judged : All (IsJudged reader.table reader.spec heap share.seat.view) blocks
-  pub falls : share.seat.view.seen ≤ least_of share.seat.view.reports
-  pub kept : KeepsLeast reader.table reader.spec heap share.seat.view.reports share.fault
-  pub rows : unreported ≤ share.seat.view.seen
-      → HasRowsOf reader.table reader.spec heap blocks share.spool.records share.rows
+-- What workers have: what their seat knows, the fault that they kept, and the rows that they took and how many.
+pub record Taken : Type 0 where
+  pub view : View
+  pub fault : Option BlockFault
+  pub records : List Record
+  pub rows : ℕ
+
+-- It is that of these blocks. As long as no report was seen, it has their rows.
+pub record IsTakenOf (reader : ReaderView) (heap : List ℕ) (blocks : List ℕ) (taken : Taken) : Type 0 where
+  pub judged : All (IsJudged reader.table reader.spec heap taken.view) blocks
+  pub falls : taken.view.seen ≤ least_of taken.view.reports
+  pub kept : KeepsLeast reader.table reader.spec heap taken.view.reports taken.fault
+  pub rows : unreported ≤ taken.view.seen → HasRowsOf reader.table reader.spec heap blocks taken.records taken.rows
+
+-- what one worker has
+abbrev pub taken_by : Share → Taken
+taken_by share = record {
+  view = share.seat.view;
+  fault = share.fault;
+  records = share.spool.records;
+  rows = share.rows;
+}
+
+-- a worker was at these blocks
+abbrev pub HasTaken : ReaderView → List ℕ → List ℕ → Share → Type 0
+HasTaken reader heap blocks share = IsTakenOf reader heap blocks (taken_by share)
 
 -- whatever blocks a worker was at before, it was at these too
 abbrev pub TakesBlocks : ReaderView → List ℕ → List ℕ → Share → Share → Type 0
@@ -114,7 +133,8 @@ pub record IsWorker (reader : ReaderView) (scan : ScanState) (share : Share) : T
 pub record IsBetweenClaims (reader : ReaderView) (heap : List ℕ) (scan : ScanState) (share : Share) : Type 0 where
   pub worker : IsWorker reader scan share
   pub taken : HasTaken reader heap (claimed_blocks (block_count heap) share.seat.view.claims) share
-  pub few : share.rows ≤ length share.seat.view.claims * 2 ^ 33
+  pub few : length share.seat.view.claims ≤ scan.blocks + scan.seats
+  pub few_rows : share.rows ≤ length share.seat.view.claims * 2 ^ 33
 
 -- the same worker in the same scan, who claims and reads on
 pub record IsSameWorker (old new : Share) : Type 0 where
@@ -141,18 +161,3 @@ begun_with seat run_rows order = record {
   rows = 0;
   fault = None;
 }
-
--- a share without a fault became the only tape
-pub record HandsOver (share : Share) (scanned : Scanned) : Type 0 where
-  pub sound : share.fault ≡ None
-  pub tape : List RunView
-  pub is : scanned ≡ record { tapes = tape ∷ []; seat = share.seat; rows = share.rows }
-  pub same : IsPermutation share.spool.records (records_of tape)
-  pub runs : AreBoundedRuns share.spool.order share.spool.run_rows tape
-
--- why it didn't: the fault that it kept, or want of memory
-abbrev pub TellsFault : Share → LeadFault → Type 0
-TellsFault share (lead.Row block item cause) =
-    share.fault ≡ Some (record { block = block; item = item; cause = cause })
-TellsFault share (lead.Duplicate first second) = ⊥
-TellsFault share lead.Memory = ⊤

@@ -5,12 +5,12 @@ use crate::built::Built;
 use crate::columns::{kinds_of, order_of};
 use crate::fault::LeadFault;
 use crate::gate::Gate;
+use crate::merging::merge_tapes;
 use crate::packing::pack;
 use crate::plan::Plan;
 use crate::scan::scan_heap;
 use crate::scanned::Scanned;
 use block_claim::{Scan, ScanSeat};
-use run_merge::merge;
 use std::alloc::Global;
 use std::thread::Threads;
 
@@ -35,7 +35,7 @@ pub fn build<Rt: Threads + Sync, G: Gate + Sync>(
     let Scanned { tapes, seat, rows } = scan_heap(rt, alloc, heap, plan, scan, seats, gate)?;
     let order = order_of(alloc, &plan.spec)?;
     let kinds = kinds_of(alloc, &plan.table, &plan.spec)?;
-    let merged = merge(alloc, tapes, order)?;
+    let merged = merge_tapes(rt, alloc, tapes, plan.workers + 1, order)?;
     let image = pack(alloc, &plan.spec, kinds, merged)?;
     Ok(Built {
         image,

@@ -2,17 +2,26 @@
 //!
 //! `_bt_leafbuild` of `nbtsort.c` sorts what the scan left and writes the leaves in that order, and
 //! `btbuild` of the same file does so behind the scan. Here the workers' tapes are merged, and each
-//! row goes from the merge straight into the packer: no list of rows stands between them.
+//! row goes from the merge straight into the packer: no list of rows stands between them. A leader
+//! alone merges all runs at once. With workers, as many threads merge a range of the keys each, and
+//! what they give is packed range by range.
+//!
+//! The leader and its workers scan side by side (`_bt_begin_parallel` of `nbtsort.c`): a thread for
+//! each seat, as far as threads can be made, of which the leader's is the caller's own. Each has
+//! its seat, its reader and its spool to itself, and hands back, by a move, its tape, the fault
+//! that it kept and its seat. They share the heap, the plan and the scan's two words, and wait for
+//! nothing but their end.
 //!
 //! A worker of the scan claims blocks and takes the rows of each (`_bt_parallel_scan_and_sort` of
-//! `nbtsort.c`, `heapam_index_build_range_scan` of `heapam_handler.c`): the page is checked, its HOT
-//! chains give each live item its root, and the needed columns of the item are read. WHERE is asked
-//! before the size of the index tuple, so a row that it leaves out can't be too large. A block with a
-//! fault is reported to all workers, and from then on a worker passes over each block above a report
-//! that it has seen. What it reads afterwards is below its own reports, so the fault that it found
-//! last is its least. As long as it has seen no report, it has the rows of all blocks of its claims;
-//! and the seat into which all others were joined has seen no less than the least of all reports. So
-//! either that seat has none, and every block was taken, or the blocks below its least report were.
+//! `nbtsort.c`, `heapam_index_build_range_scan` of `heapam_handler.c`): the page is checked, its
+//! HOT chains give each live item its root, and the needed columns of the item are read. WHERE is
+//! asked before the size of the index tuple, so a row that it leaves out can't be too large. A
+//! block with a fault is reported to all workers, and from then on a worker passes over each block
+//! above a report that it has seen. What it reads afterwards is below its own reports, so the fault
+//! that it found last is its least. As long as it has seen no report, it has the rows of all blocks
+//! of its claims; and the seat into which all others were joined has seen no less than the least of
+//! all reports. So either that seat has none, and every block was taken, or the blocks below its
+//! least report were, and the fault kept of it is the heap's first, whoever found one first.
 //!
 //! A unique index has no two rows that clash. PostgreSQL finds those that do in its sort, which
 //! meets equal keys side by side (`comparetup_index_btree` of `tuplesortvariants.c`). Here a row is
@@ -25,18 +34,21 @@
 //!
 //! # What it promises
 //!
-//! - Unless memory runs out, `build` gives the index of the heap, byte for byte by the definition of
-//!   its file, with how many rows and pairs it has, and the seat with the claims of the scan; or it
-//!   tells the heap's first fault; or, of a unique index, the first two neighbours that clash.
+//! - Unless memory runs out, `build` gives the index of the heap, byte for byte by the definition
+//!   of its file, with how many rows and pairs it has, and the seat with the claims of the scan; or
+//!   it tells the heap's first fault; or, of a unique index, the first two neighbours that clash.
 //! - What a heap comes to is one thing at most (`build_outcome_is_determined`): the rows of the
 //!   index are one list (`heap_rows_are_determined`), and since no two have one row pointer, they
 //!   have one order. Neighbours tell of all clashes (`neighbours_tell_of_clashes`).
-//! - Whoever claimed which blocks, the workers together have each row of the heap once
-//!   (`claims_share_the_rows`).
+//! - Each worker's tape has exactly the rows of the blocks that it claimed (`scan_heap`), and
+//!   whoever claimed which, the workers together have each row of the heap once
+//!   (`claims_share_the_rows`). So the index is the same for every number of workers and every
+//!   order of their claims.
 //!
 //! # What is not
 //!
-//! - A plan with workers beside the leader isn't carried out yet.
+//! - That two threads ran, that work is shared evenly, or any time. Where no thread can be made,
+//!   the caller's does its part as well.
 //! - That a worker stops reading above a report is left open: a contract says what is told, and not
 //!   which pages were read for it.
 //! - That there is enough memory. Where the index would have 2^31 blocks or more, or 64 levels,
@@ -50,11 +62,13 @@ mod fault;
 mod gate;
 mod laws;
 mod leader;
+mod merging;
 mod packing;
 mod plan;
 mod row_reader;
 mod scan;
 mod scanned;
+mod team;
 mod worker;
 
 pub use built::Built;

@@ -1,18 +1,25 @@
-use Rattle.std.proofs.Common.{◌∙◌, subst, sym}
+use Rattle.std.proofs.Common.{◌∙◌, subst, sym, All}
 use Rattle.std.proofs.lemmas.Result.{err_from_is_err_and}
-use Rattle.run_merge.specs.Sorted.{AllHaveOrder}
+use Rattle.shared_tape.specs.Stored.{IsStorable}
+use Rattle.run_merge.specs.Sorted.{AllHaveOrder, all_records}
 use Rattle.btree_pack.specs.Pass.Put.{AreColumnsOf}
 use Rattle.build_leader.specs.Pass.{AreRowsOf}
 use Rattle.build_leader.proofs.IndexRecords.{are_columns}
-use Rattle.build_leader.proofs.ScannedRows.{built_of_heap, faults_of_heap, merged_are_rows, tapes_have_order}
+use Rattle.build_leader.proofs.ScannedRows.{built_of_heap, faults_of_heap, merged_are_rows, tapes_have_order, tapes_storable}
 use Rattle.build_leader.proofs.SharedRows.{claims_share}
 use Rattle.build_leader.proofs.leader.build.Goals as goal
 
-pub merge-requires : goal.merge-requires
-merge-requires g c =
+pub merge_tapes-requires-clause-order : goal.merge_tapes-requires-clause-order
+merge_tapes-requires-clause-order g c κs within =
     let scanned = c.in_ok-tapes.field-0 in
     subst (λ order. AllHaveOrder order scanned.tapes) (sym c.in_ok-order.ensures)
     (tapes_have_order c.args.plan.now c.args.heap.now c.args.scan.now scanned c.in_ok-tapes.ensures.scanned)
+
+pub merge_tapes-requires-clause-storable : goal.merge_tapes-requires-clause-storable
+merge_tapes-requires-clause-storable g c κs within =
+    let scanned = c.in_ok-tapes.field-0 in
+    subst (λ order. All (IsStorable order) (all_records scanned.tapes)) (sym c.in_ok-order.ensures)
+    (tapes_storable c.args.plan.now c.args.heap.now c.args.scan.now scanned c.in_ok-tapes.ensures.scanned)
 
 pub pack-requires-clause-columns : goal.pack-requires-clause-columns
 pack-requires-clause-columns g c =

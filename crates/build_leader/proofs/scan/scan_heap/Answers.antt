@@ -1,34 +1,30 @@
 use Rattle.std.proofs.lemmas.Result.{IfOk-weaker}
 use Rattle.build_leader.specs.Calls.{IsScanFault, IsScanned}
-use Rattle.build_leader.specs.Scanning.{HandsOver, TellsFault}
-use Rattle.build_leader.proofs.Finishing.{IsOnlySeat, err_then, is_begun, only_is_scanned, only_scan_fault}
+use Rattle.build_leader.specs.Teams.{HandsOver, TellsFault}
+use Rattle.build_leader.proofs.Finishing.{err_then, few_seats, is_scan_fault, is_scanned, scan_of, some_seats, whole_team}
 use Rattle.build_leader.proofs.scan.scan_heap.Goals as goal
 
-pub scan_share-requires-clause-begun : goal.scan_share-requires-clause-begun
-scan_share-requires-clause-begun g c =
-    let plan = c.args.plan.now in
-    let heap = c.args.heap.now in
-    let scan = c.args.scan.now in
-    let seats = c.args.seats.items in
-    let seat = c.only_seat.result in
-    let only : IsOnlySeat plan heap scan seats seat =
-    record { alone = c.requires.plan.workers; opened = c.requires.opened; one = c.only_seat.ensures } in
-    is_begun plan heap scan seats seat only c.in_ok-reader.reader c.new-begun.result c.in_ok-order.order c.in_ok-reader.ensures
-    c.in_ok-order.ensures c.new-begun.ensures
+pub scan_team-requires-clause-scan : goal.scan_team-requires-clause-scan
+scan_team-requires-clause-scan g c κs within =
+    scan_of c.args.plan.now c.args.heap.now c.args.scan.now c.args.seats.items c.requires.plan c.requires.opened
+
+pub scan_team-requires-clause-some : goal.scan_team-requires-clause-some
+scan_team-requires-clause-some g c κs within =
+    some_seats c.args.plan.now c.args.heap.now c.args.scan.now c.args.seats.items c.requires.plan c.requires.opened
+
+pub scan_team-requires-clause-few : goal.scan_team-requires-clause-few
+scan_team-requires-clause-few g c κs within =
+    few_seats c.args.plan.now c.args.heap.now c.args.scan.now c.args.seats.items c.requires.plan c.requires.opened
 
 pub returns-clause-scanned : goal.returns-clause-scanned
 returns-clause-scanned g c =
     let plan = c.args.plan.now in
     let heap = c.args.heap.now in
     let scan = c.args.scan.now in
-    let seats = c.args.seats.items in
-    let seat = c.only_seat.result in
-    let share = c.in_ok-share.share in
-    let only : IsOnlySeat plan heap scan seats seat =
-    record { alone = c.requires.plan.workers; opened = c.requires.opened; one = c.only_seat.ensures } in
-    IfOk-weaker c.hand_over.result (HandsOver share) (IsScanned plan heap scan)
-    (only_is_scanned plan heap scan seats seat only c.in_ok-reader.reader c.new-begun.result share c.in_ok-order.order
-    c.in_ok-reader.ensures c.new-begun.ensures c.in_ok-share.ensures.same c.in_ok-share.ensures.scanned c.in_ok-share.ensures.done)
+    let team = c.in_ok-team.team in
+    IfOk-weaker c.hand_over.result (HandsOver team) (IsScanned plan heap scan)
+    (is_scanned plan heap scan team
+    (whole_team plan heap scan c.args.seats.items c.requires.plan c.requires.opened team c.in_ok-team.ensures.team c.in_ok-team.ensures.share))
     c.hand_over.ensures.scanned
 
 pub returns-clause-refused : goal.returns-clause-refused
@@ -36,12 +32,8 @@ returns-clause-refused g c =
     let plan = c.args.plan.now in
     let heap = c.args.heap.now in
     let scan = c.args.scan.now in
-    let seats = c.args.seats.items in
-    let seat = c.only_seat.result in
-    let share = c.in_ok-share.share in
-    let only : IsOnlySeat plan heap scan seats seat =
-    record { alone = c.requires.plan.workers; opened = c.requires.opened; one = c.only_seat.ensures } in
-    err_then (TellsFault share) (IsScanFault plan heap) c.hand_over.result
-    (only_scan_fault plan heap scan seats seat only c.in_ok-reader.reader c.new-begun.result share c.in_ok-order.order
-    c.in_ok-reader.ensures c.new-begun.ensures c.in_ok-share.ensures.same c.in_ok-share.ensures.scanned c.in_ok-share.ensures.done)
+    let team = c.in_ok-team.team in
+    err_then (TellsFault team) (IsScanFault plan heap) c.hand_over.result
+    (is_scan_fault plan heap scan team
+    (whole_team plan heap scan c.args.seats.items c.requires.plan c.requires.opened team c.in_ok-team.ensures.team c.in_ok-team.ensures.share))
     c.hand_over.ensures.refused

@@ -1,4 +1,4 @@
-use Rattle.std.proofs.Common.{◌≡◌, ◌+◌, ◌≤◌, min, [], ◌∷◌, ◌++◌, None, ap, sym, ◌∙◌, arith}
+use Rattle.std.proofs.Common.{◌≡◌, ◌+◌, ◌≤◌, min, [], ◌∷◌, ◌++◌, length, None, ap, subst, sym, ◌∙◌, arith}
 use Rattle.std.proofs.lemmas.Bool.{ltb-false, ltb-true}
 use Rattle.std.proofs.lemmas.Result.{on_ok_weaker}
 use Rattle.block_claim.specs.declared.claim.Claim.{Claim}
@@ -19,7 +19,7 @@ returns-in_default-clause-between g c =
     let same = c.requires.scan.blocks in
     between_none c.args.reader.now c.args.heap.now c.args.scan.now old seat claim c.requires.between
     (ap (λ (s : SeatState). s.view.claims) event.1) (ap (λ (s : SeatState). s.view.reports) event.1)
-    (let seen = ap (λ (s : SeatState). s.view.seen) event.1 in omega arith) (omega arith)
+    (let seen = ap (λ (s : SeatState). s.view.seen) event.1 in omega arith) c.claim.ensures.few (omega arith)
     (claimed_worker c.args.reader.now c.args.heap.now c.args.scan.now old seat None c.requires.between.worker event c.claim.ensures.legal c.claim.ensures.seen)
 
 pub returns-clause-between : goal.returns-clause-between
@@ -32,6 +32,7 @@ returns-clause-between g c =
     let told = claim_told _ at c.in-Some.claim event.2 in
     let inside = ltb-true event.0 old.seat.view.blocks told.0 in
     let first : c.in-Some.claim.first ≡ event.0 = ap (λ (x : Claim). x.first) told.1 in
+    let scan = c.args.scan.now in
     let blocks = c.requires.between.worker.of_scan.blocks in
     let same = c.requires.scan.blocks in
     let looked = c.floor.ensures.noted in
@@ -44,5 +45,6 @@ returns-clause-between g c =
     let end : c.min-end.result ≡ min (block_count c.args.heap.now) (c.in-Some.claim.first + c.in-Some.claim.size) = omega (arith, c.min-end.ensures, c.from.ensures) in
     on_ok_weaker c.scan_blocks.result
     (λ taken. between_some c.args.reader.now c.args.heap.now c.args.scan.now old c.scan_blocks.new.share seat c.in-Some.claim c.min-end.result
-    c.requires.between claims reports falls (omega arith) end c.scan_blocks.ensures.claims c.scan_blocks.ensures.rows c.scan_blocks.ensures.worker taken)
+    c.requires.between claims reports falls
+    (subst (λ (s : SeatState). length s.view.claims ≤ scan.blocks + scan.seats) (sym looked) c.claim.ensures.few) (omega arith) end c.scan_blocks.ensures.claims c.scan_blocks.ensures.rows c.scan_blocks.ensures.worker taken)
     c.scan_blocks.ensures.taken
