@@ -38,10 +38,10 @@ index_text words = text_of words 5
 
 -- how many workers there may be beside the leader, and how many there are where no option says it
 abbrev pub most_workers : ℕ
-most_workers = 0
+most_workers = 31
 
 abbrev pub default_workers : ℕ
-default_workers = 0
+default_workers = 2
 
 -- how many rows a sorted run may have, and how many it has where no option says it
 abbrev pub most_run_rows : ℕ

@@ -14,7 +14,7 @@ usage: pg_index build HEAP INDEX TABLE-STATEMENT INDEX-STATEMENT [options]
                     columns are sorted by collation \"C\"
 
 options, in any order, each at most once:
-  --workers=N       workers beside the leader: 0 alone, and 0 by default
+  --workers=N       workers beside the leader, 0 to 31, 2 by default
   --run-rows=N      rows of a sorted run: 1 to 16777216, by default 65536
   --claims          report which worker claimed which blocks
 

@@ -16,10 +16,10 @@ const RUN_ROWS: &str = "--run-rows=";
 
 const CLAIMS: &str = "--claims";
 
-// The most workers beside the leader, and how many there are by default: none yet.
-const MOST_WORKERS: u32 = 0;
+// The most workers beside the leader, and how many there are by default.
+const MOST_WORKERS: u32 = 31;
 
-const DEFAULT_WORKERS: u32 = 0;
+const DEFAULT_WORKERS: u32 = 2;
 
 // The most rows of a sorted run, and how many it has by default.
 const MOST_RUN_ROWS: u32 = 16_777_216;
