@@ -18,3 +18,4 @@ mod statements;
 mod unique_indexes;
 mod values;
 mod words;
+mod workers;

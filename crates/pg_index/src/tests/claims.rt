@@ -53,6 +53,19 @@ fn report_of(alloc: Global, claims: &[Claim]) -> Result<String, AllocError> {
     Ok(report)
 }
 
+// The words of a build by a leader and four workers.
+const BY_FIVE: [&str; 6] = ["build", "h", "i", TABLE, INDEX, "--workers=4"];
+
+#[test]
+fn many_blocks_are_claimed_by_several_workers(rt: HostRuntime) -> Result<(), Fail> {
+    let alloc = rt.alloc();
+    let mut files = files_of(alloc, &heap_of(alloc, &[], 4096 * PAGE)?)?;
+    let ended = end_of(&rt, alloc, &BY_FIVE, &mut files)?;
+    assert_eq!(rt; answer_of(alloc, &ended)?.as_str(), "0");
+    assert!(rt; files.file("i") == Some(leaf_file(alloc, &[])?.as_slice()));
+    Ok(())
+}
+
 #[test]
 fn the_claims_of_many_blocks_grow_small_at_their_end(rt: HostRuntime) -> Result<(), Fail> {
     let alloc = rt.alloc();

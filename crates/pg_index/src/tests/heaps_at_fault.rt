@@ -1,4 +1,5 @@
-use super::runs::{BUILD, INT4_INDEX, answer_of, assert_refused, end_of, files_of};
+use super::made_heaps::{broken_page, heap_broken_at};
+use super::runs::{Command, INDEX, INT4_INDEX, TABLE, answer_of, assert_refused, end_of, files_of};
 use pg_bytes::PAGE;
 use std::alloc::{AllocError, Global};
 use std::process::Abort;
@@ -6,7 +7,7 @@ use std::test::Fail;
 use std::thread::Threads;
 use test_pages::{
     FIRST_VERSION, INT4_ROW, Line, SECOND_VERSION, THIRD_VERSION, Tuple, heap_of, heap_page,
-    int4_page, put,
+    int4_page,
 };
 
 // A row, a heap-only version that nothing leads to, and a tuple that isn't settled.
@@ -155,28 +156,11 @@ fn assert_fault<R: Threads + Sync + Abort>(
     assert_refused(rt, alloc, name, &INT4_INDEX, heap, want.as_str())
 }
 
-// A page of three rows with a special space.
-fn broken_page(alloc: Global) -> Result<Vec<u8>, AllocError> {
-    let mut page = int4_page(alloc, &[30, 10, 20])?;
-    put(&mut page, 16, &[0xF8, 0x1F]);
-    Ok(page)
-}
-
-// A heap of so many new blocks, but for broken pages at two of them.
-fn heap_broken_at(alloc: Global, blocks: usize, places: [usize; 2]) -> Result<Vec<u8>, AllocError> {
-    let mut heap = heap_of(alloc, &[], blocks.min(4096) * PAGE)?;
-    let broken = broken_page(alloc)?;
-    for block in places {
-        put(&mut heap, block.min(4096) * PAGE, &broken);
-    }
-    Ok(heap)
-}
-
 #[test]
 fn the_first_block_at_fault_is_told(rt: HostRuntime) -> Result<(), Fail> {
     let alloc = rt.alloc();
     let ten = heap_broken_at(alloc, 10, [3, 9])?;
-    assert_fault(&rt, alloc, "of ten blocks", &ten, (3, 0, 1))?;
+    assert_first_told(&rt, alloc, "of ten blocks", &ten)?;
     let short = Line::Normal(Tuple {
         values: &[],
         ..INT4_ROW
@@ -191,15 +175,58 @@ fn the_first_block_at_fault_is_told(rt: HostRuntime) -> Result<(), Fail> {
     Ok(())
 }
 
+// Numbers of workers beside the leader.
+const WORKERS: [&[&str]; 4] = [
+    &["--workers=0"],
+    &["--workers=1"],
+    &["--workers=4"],
+    &["--workers=31"],
+];
+
+// The words of a build by the leader alone, and by one with workers.
+const ALONE: [&str; 6] = ["build", "h", "i", TABLE, INDEX, "--workers=0"];
+
+const BY_FIVE: [&str; 6] = ["build", "h", "i", TABLE, INDEX, "--workers=4"];
+
+const BY_32: [&str; 6] = ["build", "h", "i", TABLE, INDEX, "--workers=31"];
+
+// That a heap is refused for the page of block 3, whoever scans it.
+fn assert_first_told<R: Threads + Sync + Abort>(
+    rt: &R,
+    alloc: Global,
+    name: &str,
+    heap: &[u8],
+) -> Result<(), AllocError> {
+    for options in WORKERS {
+        let command = Command {
+            options,
+            ..INT4_INDEX
+        };
+        assert_refused(
+            rt,
+            alloc,
+            name,
+            &command,
+            heap,
+            "5 heap block 3 item 0: cause 1",
+        )?;
+    }
+    Ok(())
+}
+
 // The heap is large, and isn't held against what it was.
 #[test]
 fn the_first_of_many_blocks_is_told(rt: HostRuntime) -> Result<(), Fail> {
     let alloc = rt.alloc();
     let heap = heap_broken_at(alloc, 4096, [3, 4000])?;
     let mut files = files_of(alloc, &heap)?;
-    let ended = end_of(&rt, alloc, &BUILD, &mut files)?;
-    let want = "5 heap block 3 item 0: cause 1";
-    assert_eq!(rt; answer_of(alloc, &ended)?.as_str(), want);
+    for words in [&ALONE, &BY_FIVE, &BY_32] {
+        let ended = end_of(&rt, alloc, words, &mut files)?;
+        assert_eq!(rt;
+            answer_of(alloc, &ended)?.as_str(),
+            "5 heap block 3 item 0: cause 1"
+        );
+    }
     Ok(())
 }
 

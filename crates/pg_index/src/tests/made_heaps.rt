@@ -1,7 +1,8 @@
 // Heaps of many rows, and files of which some pieces are told.
 
+use pg_bytes::PAGE;
 use std::alloc::{AllocError, Global};
-use test_pages::{INT4_ROW, Line, Tuple, heap_page};
+use test_pages::{INT4_ROW, Line, Tuple, heap_of, heap_page, int4_page, put};
 
 // How many rows of up to 8 bytes of data a page takes: a row has a line pointer of 4 bytes and a
 // tuple of 32.
@@ -48,4 +49,25 @@ fn page_of_rows(alloc: Global, attributes: u16, rows: &[Vec<u8>]) -> Result<Vec<
         }))?;
     }
     heap_page(alloc, &lines)
+}
+
+// A page of three rows with a special space.
+pub fn broken_page(alloc: Global) -> Result<Vec<u8>, AllocError> {
+    let mut page = int4_page(alloc, &[30, 10, 20])?;
+    put(&mut page, 16, &[0xF8, 0x1F]);
+    Ok(page)
+}
+
+// A heap of so many new blocks, but for broken pages at two of them.
+pub fn heap_broken_at(
+    alloc: Global,
+    blocks: usize,
+    places: [usize; 2],
+) -> Result<Vec<u8>, AllocError> {
+    let mut heap = heap_of(alloc, &[], blocks.min(4096) * PAGE)?;
+    let broken = broken_page(alloc)?;
+    for block in places {
+        put(&mut heap, block.min(4096) * PAGE, &broken);
+    }
+    Ok(heap)
 }

@@ -137,8 +137,14 @@ fn assert_clashes<R: Threads + Sync + Abort>(
     Ok(())
 }
 
-// Runs of all rows, of four, and of one.
-const RUNS: [&[&str]; 3] = [&[], &["--run-rows=4"], &["--run-rows=1"]];
+// Runs of all rows, of four, and of one, by a leader alone and by several workers.
+const RUNS: [&[&str]; 5] = [
+    &["--workers=0"],
+    &["--workers=0", "--run-rows=4"],
+    &["--workers=0", "--run-rows=1"],
+    &["--workers=3"],
+    &["--workers=31", "--run-rows=1"],
+];
 
 // A heap of a block for each of these keys.
 fn a_block_each(alloc: Global, keys: &[i32]) -> Result<Vec<u8>, AllocError> {

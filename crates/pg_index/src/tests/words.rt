@@ -21,9 +21,8 @@ const FAULTY_LINES: [(&[&str], u32); 11] = [
 ];
 
 // Options, and the number of the least word at fault behind the five before them.
-const FAULTY_OPTIONS: [(&[&str], u32); 22] = [
+const FAULTY_OPTIONS: [(&[&str], u32); 21] = [
     (&["--workers=32"], 6),
-    (&["--workers=1"], 6),
     (&["--workers=00"], 6),
     (&["--workers=+0"], 6),
     (&["--workers=-0"], 6),
@@ -50,9 +49,11 @@ const FAULTY_OPTIONS: [(&[&str], u32); 22] = [
 ];
 
 // Options that are in order.
-const SOUND_OPTIONS: [&[&str]; 8] = [
+const SOUND_OPTIONS: [&[&str]; 10] = [
     &[],
     &["--workers=0"],
+    &["--workers=1"],
+    &["--workers=31"],
     &["--run-rows=1"],
     &["--run-rows=16777216"],
     &["--claims"],
