@@ -1,0 +1,6 @@
+-- the lesser and the greater of two values
+pub mod Choosing
+-- summaries joined; crates above cite the laws
+pub mod Joining
+-- how a summary is kept
+pub mod Storing

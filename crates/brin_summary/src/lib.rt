@@ -1,0 +1,14 @@
+//! The summaries of a BRIN index and its file.
+#![tactic(auto)]
+
+mod bound;
+mod file;
+mod laws;
+mod summary;
+
+pub use file::{BrinFault, pack};
+pub use laws::{
+    joins_associate, joins_commute, order_does_not_matter, same_rows_have_one_summary,
+    summaries_are_joined,
+};
+pub use summary::Summary;
