@@ -4,3 +4,7 @@ pub mod Choosing
 pub mod Joining
 -- how a summary is kept
 pub mod Storing
+-- the flags of a null bitmap
+pub mod Flags
+-- the tuple of a range
+pub mod Tuples

@@ -1,11 +1,12 @@
-ghost use Rattle.std.specs.Prelude.{◌≡◌, ◌*◌, ◌<◌, ◌≤◌, ◌^◌, All, length, IfErr, IfOk, None, OnOk};
+ghost use Rattle.std.specs.Prelude.{◌≡◌, ◌*◌, ◌<◌, ◌≤◌, ◌^◌, All, length, map, IfErr, IfOk, None, OnOk};
 ghost use Rattle.brin_summary.specs.Answer.{IsTold, tuple_size, wide_range};
 ghost use Rattle.brin_summary.specs.File.{brin_file};
 
 use crate::summary::Summary;
+use crate::tuple::{BoundKinds, TUPLE_MOST};
 use opclass::Kinds;
 use pg_bytes::IndexImage;
-use std::alloc::Global;
+use std::alloc::{AllocError, AllocFailed, Global};
 
 /// Why ranges aren't packed: a range's tuple is larger than a page takes, which is told with its
 /// size in bytes, ranges counted from 0, or no memory was left.
@@ -13,6 +14,28 @@ use std::alloc::Global;
 pub enum BrinFault {
     RangeWide { range: u32, size: u64 },
     Memory,
+}
+
+impl From<AllocError> for BrinFault {
+    ghost use Rattle.std.specs.Prelude.{◌≡◌};
+    ghost use Rattle.brin_summary.specs.declared.file.BrinFault.TheVariants.{Memory};
+
+    ghost from_gives = { λ _ fault. fault ≡ Memory };
+
+    fn from(_: AllocError) -> BrinFault {
+        BrinFault::Memory
+    }
+}
+
+impl<T: Drop> From<AllocFailed<T>> for BrinFault {
+    ghost use Rattle.std.specs.Prelude.{◌≡◌};
+    ghost use Rattle.brin_summary.specs.declared.file.BrinFault.TheVariants.{Memory};
+
+    ghost from_gives = { λ _ fault. fault ≡ Memory };
+
+    fn from(_: AllocFailed<T>) -> BrinFault {
+        BrinFault::Memory
+    }
 }
 
 /// The file of the index over columns of these types, whose ranges of so many blocks each have
@@ -33,5 +56,30 @@ pub fn pack(
     ensures fit { OnOk result (wide_range kinds.now ranges.now ≡ None) }
     ensures wide { IfErr result (IsTold kinds.now ranges.now) }
 {
+    let kinds = BoundKinds::of(alloc, kinds.as_slice())?;
+    let sizes = tuple_sizes(alloc, &kinds, ranges)?;
     Err(BrinFault::Memory)
+}
+
+// The sizes of the ranges' tuples, or the least range whose tuple no page takes.
+fn tuple_sizes(alloc: Global, kinds: &BoundKinds, ranges: &[Summary]) -> Result<Vec<u16>, BrinFault>
+    requires columns { All (λ range. length range.columns ≤ 32) ranges.now }
+    requires count { length ranges.now < 2 ^ 24 }
+    requires sizes { All (λ range. tuple_size kinds.now range < 2 ^ 63) ranges.now }
+    ensures sizes { IfOk result (λ sizes. sizes.items ≡ map (tuple_size kinds.now) ranges.now) }
+    ensures fit { OnOk result (wide_range kinds.now ranges.now ≡ None) }
+    ensures wide { IfErr result (IsTold kinds.now ranges.now) }
+{
+    let mut sizes = Vec::with_capacity(alloc, ranges.len())?;
+    for (range, summary) in ranges.iter().enumerate() {
+        let size = kinds.tuple_size(summary);
+        if size > TUPLE_MOST {
+            return Err(BrinFault::RangeWide {
+                range: range as u32,
+                size,
+            });
+        }
+        sizes.push(size as u16)?;
+    }
+    Ok(sizes)
 }

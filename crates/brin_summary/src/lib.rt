@@ -5,6 +5,7 @@ mod bound;
 mod file;
 mod laws;
 mod summary;
+mod tuple;
 
 pub use file::{BrinFault, pack};
 pub use laws::{

@@ -1,8 +1,9 @@
-ghost use Rattle.std.specs.Prelude.{◌≡◌, [], ◌∷◌, ◌++◌, ◌*◌, List, length, replicate, IfOk, OnErr, OnOk, unwrap_or};
+ghost use Rattle.std.specs.Prelude.{◌≡◌, [], ◌∷◌, ◌++◌, ◌*◌, List, length, map, replicate, IfOk, OnErr, OnOk, unwrap_or};
 ghost use Rattle.opclass.specs.declared.value.KeyVal.{KeyVal};
 ghost use Rattle.opclass.specs.declared.value.KeyVal.TheVariants.{Nil};
 ghost use Rattle.brin_summary.specs.Pass.{columns_from, row_columns};
 ghost use Rattle.brin_summary.specs.Summary.{joined, joined_columns, summary_of};
+ghost use Rattle.brin_summary.specs.Tuple.{bounds_of};
 
 use crate::bound::{is_null, new_high, new_low, take_greater, take_lesser};
 use opclass::{KeyList, KeyVal};
@@ -67,6 +68,27 @@ impl Summary {
         add_values(alloc, bounds, nulls, keys.as_slice())?;
         self.has_rows = true;
         Ok(())
+    }
+
+    /// Whether there is a row.
+    pub(crate) fn has_rows(&self) -> bool
+        ensures { result ≡ self.now.has_rows }
+    {
+        self.has_rows
+    }
+
+    /// The least and the greatest value of each column, a pair behind the other.
+    pub(crate) fn bounds(&self) -> &[KeyVal]
+        ensures { result.now ≡ bounds_of self.now.columns }
+    {
+        &self.bounds
+    }
+
+    /// Of each column whether it has a null.
+    pub(crate) fn nulls(&self) -> &[bool]
+        ensures { result.now ≡ map (λ column. column.has_null) self.now.columns }
+    {
+        &self.nulls
     }
 
     /// Takes the rows of another summary in, which takes no memory.
