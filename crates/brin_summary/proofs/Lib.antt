@@ -8,3 +8,7 @@ pub mod Storing
 pub mod Flags
 -- the tuple of a range
 pub mod Tuples
+-- the pages
+pub mod PageWrites
+-- tuples cut into pages
+pub mod Cutting

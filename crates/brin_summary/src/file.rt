@@ -2,6 +2,9 @@ ghost use Rattle.std.specs.Prelude.{◌≡◌, ◌*◌, ◌<◌, ◌≤◌, ◌^
 ghost use Rattle.brin_summary.specs.Answer.{IsTold, tuple_size, wide_range};
 ghost use Rattle.brin_summary.specs.File.{brin_file};
 
+use crate::page::meta_page;
+use crate::regular::{append, put_tuples};
+use crate::revmap::{put_revmap, revmap_pages, tuple_pointers};
 use crate::summary::Summary;
 use crate::tuple::{BoundKinds, TUPLE_MOST};
 use opclass::Kinds;
@@ -58,7 +61,32 @@ pub fn pack(
 {
     let kinds = BoundKinds::of(alloc, kinds.as_slice())?;
     let sizes = tuple_sizes(alloc, &kinds, ranges)?;
-    Err(BrinFault::Memory)
+    let image = file_of(alloc, &kinds, pages_per_range, ranges, &sizes)?;
+    Ok(image)
+}
+
+// The file of ranges whose tuples have these sizes. An error means that no memory was left.
+fn file_of(
+    alloc: Global,
+    kinds: &BoundKinds,
+    pages_per_range: u32,
+    ranges: &[Summary],
+    sizes: &[u16],
+) -> Result<IndexImage, AllocError>
+    requires columns { All (λ range. length range.columns ≤ 32) ranges.now }
+    requires sizes { sizes.now ≡ map (tuple_size kinds.now) ranges.now }
+    requires fit { All (λ size. size ≤ 8152) sizes.now }
+    requires some_pages { 1 ≤ pages_per_range }
+    requires blocks { length ranges.now * pages_per_range < 2 ^ 24 }
+    ensures { IfOk result (λ image. image ≡ brin_file kinds.now pages_per_range ranges.now) }
+{
+    let revmap = revmap_pages(ranges.len() as u32);
+    let pointers = tuple_pointers(alloc, 1 + revmap, sizes)?;
+    let mut image = IndexImage::new(alloc);
+    append(&mut image, &meta_page(alloc, pages_per_range, revmap)?)?;
+    put_revmap(alloc, &mut image, revmap, &pointers)?;
+    put_tuples(alloc, &mut image, kinds, pages_per_range, ranges, sizes)?;
+    Ok(image)
 }
 
 // The sizes of the ranges' tuples, or the least range whose tuple no page takes.

@@ -4,6 +4,9 @@
 mod bound;
 mod file;
 mod laws;
+mod page;
+mod regular;
+mod revmap;
 mod summary;
 mod tuple;
 
