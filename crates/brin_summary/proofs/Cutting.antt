@@ -3,9 +3,15 @@ use Rattle.std.proofs.Common.{◌≡◌, ℕ, zero, suc, ◌+◌, ◌-◌, ◌*�
 use Rattle.std.specs.Prelude.{All, nat_lt}
 use Rattle.std.specs.List.{position_or_len, range_with_len, sum_by}
 use Rattle.std.proofs.lemmas.Bool.Decides.{nat_tests}
-use Rattle.std.proofs.lemmas.List.{length-take-le}
+use Rattle.std.proofs.lemmas.List.{length-drop, length-take-le}
+use Rattle.std.proofs.Math.Nat.{suc-mul}
+use Rattle.opclass.specs.declared.types.ColType.{ColType}
+use Rattle.brin_summary.specs.Answer.{tuple_size}
+use Rattle.brin_summary.specs.Summary.{RangeSummary}
+use Rattle.brin_summary.specs.Tuple.{range_tuple}
+use Rattle.brin_summary.proofs.Tuples.{tuple_size-anywhere}
 use Rattle.std.proofs.lemmas.List.Sums.{sum_by_more, sum_by-cons}
-use Rattle.brin_summary.specs.File.{breaks, counts_within, page_count, page_counts, taken}
+use Rattle.brin_summary.specs.File.{breaks, counts_within, page_count, page_counts, taken, tuples_from}
 
 -- the first place at which a test holds
 pub first-at : (p : ℕ → Bool) (base n k : ℕ) → k ≤ n → ((j : ℕ) → j < k → p (base + j) ≡ false) → (k < n → p (base + k) ≡ true)
@@ -85,3 +91,70 @@ pub whole-counted : (sizes : List ℕ) (count so_far : ℕ) → 0 < length sizes
     → length sizes ≡ page_count sizes
 whole-counted sizes count so_far some all front =
     sym all ∙ counted sizes count (omega arith) (omega arith) front.none (λ below. absurd (omega arith))
+
+-- ---- page after page
+
+-- a bound that is large enough doesn't matter
+counts-bound : (a b : ℕ) (sizes : List ℕ) → length sizes ≤ a → length sizes ≤ b → counts_within a sizes ≡ counts_within b sizes
+counts-bound zero zero sizes in_a in_b = refl
+counts-bound zero (suc b) [] in_a in_b = refl
+counts-bound zero (suc b) (size ∷ sizes) in_a in_b = absurd (omega arith)
+counts-bound (suc a) zero [] in_a in_b = refl
+counts-bound (suc a) zero (size ∷ sizes) in_a in_b = absurd (omega arith)
+counts-bound (suc a) (suc b) [] in_a in_b = refl
+counts-bound (suc a) (suc b) (size ∷ sizes) in_a in_b =
+    let left = length-drop (page_count (size ∷ sizes)) (size ∷ sizes) in
+    ap (λ l. page_count (size ∷ sizes) ∷ l) (counts-bound a b (drop (page_count (size ∷ sizes)) (size ∷ sizes)) (omega arith) (omega arith))
+
+-- the first page, and those of the tuples behind it
+pub counts-step : (sizes : List ℕ) → 0 < length sizes → page_counts sizes ≡ page_count sizes ∷ page_counts (drop (page_count sizes) sizes)
+unfolding page_counts
+counts-step [] some = absurd (omega arith)
+counts-step (size ∷ sizes) some =
+    let rest = drop (page_count (size ∷ sizes)) (size ∷ sizes) in
+    let left = length-drop (page_count (size ∷ sizes)) (size ∷ sizes) in
+    ap (λ l. page_count (size ∷ sizes) ∷ l) (counts-bound (length sizes) (length rest) rest (omega arith) (omega arith))
+
+pub counts-none : (sizes : List ℕ) → length sizes ≡ 0 → page_counts sizes ≡ []
+unfolding page_counts
+counts-none [] none = refl
+counts-none (size ∷ sizes) some = absurd (omega arith)
+
+-- ---- the tuples of ranges
+
+module _ (kinds : List ColType) (pages_per_range : ℕ) where
+  pub length-tuples : (first : ℕ) (ranges : List RangeSummary) → length (tuples_from kinds pages_per_range first ranges) ≡ length ranges
+  length-tuples first [] = refl
+  length-tuples first (range ∷ ranges) = ap suc (length-tuples (first + pages_per_range) ranges)
+
+  pub sizes-of-tuples : (first : ℕ) (ranges : List RangeSummary)
+      → map length (tuples_from kinds pages_per_range first ranges) ≡ map (tuple_size kinds) ranges
+  sizes-of-tuples first [] = refl
+  sizes-of-tuples first (range ∷ ranges) = rw (tuple_size-anywhere kinds first range, sizes-of-tuples (first + pages_per_range) ranges) refl
+
+  pub take-tuples : (first count : ℕ) (ranges : List RangeSummary)
+      → take count (tuples_from kinds pages_per_range first ranges) ≡ tuples_from kinds pages_per_range first (take count ranges)
+  take-tuples first zero ranges = refl
+  take-tuples first (suc count) [] = refl
+  take-tuples first (suc count) (range ∷ ranges) = ap (λ l. range_tuple kinds first range ∷ l) (take-tuples (first + pages_per_range) count ranges)
+
+  pub drop-tuples : (first count : ℕ) (ranges : List RangeSummary)
+      → drop count (tuples_from kinds pages_per_range first ranges) ≡ tuples_from kinds pages_per_range (first + count * pages_per_range) (drop count ranges)
+  drop-tuples first zero ranges = ap (λ (n : ℕ). tuples_from kinds pages_per_range n ranges) (let e : first ≡ first + 0 * pages_per_range = omega arith in e)
+  drop-tuples first (suc count) [] = refl
+  drop-tuples first (suc count) (range ∷ ranges) =
+      let more = suc-mul count pages_per_range in
+      drop-tuples (first + pages_per_range) count ranges
+      ∙ ap (λ (n : ℕ). tuples_from kinds pages_per_range n (drop count ranges))
+      (let e : first + pages_per_range + count * pages_per_range ≡ first + suc count * pages_per_range = omega arith in e)
+
+  pub tuple-at : (first at : ℕ) (ranges : List RangeSummary) (d : RangeSummary) → at < length ranges
+      → get_or (tuples_from kinds pages_per_range first ranges) at [] ≡ range_tuple kinds (first + at * pages_per_range) (get_or ranges at d)
+  tuple-at first at [] d inside = absurd (omega arith)
+  tuple-at first zero (range ∷ ranges) d inside =
+      ap (λ (n : ℕ). range_tuple kinds n range) (let e : first ≡ first + 0 * pages_per_range = omega arith in e)
+  tuple-at first (suc at) (range ∷ ranges) d inside =
+      let more = suc-mul at pages_per_range in
+      tuple-at (first + pages_per_range) at ranges d (omega arith)
+      ∙ ap (λ (n : ℕ). range_tuple kinds n (get_or ranges at d))
+      (let e : first + pages_per_range + at * pages_per_range ≡ first + suc at * pages_per_range = omega arith in e)

@@ -12,3 +12,7 @@ pub mod Tuples
 pub mod PageWrites
 -- tuples cut into pages
 pub mod Cutting
+-- the pointers to tuples, and the revmap
+pub mod Pointers
+-- regular pages
+pub mod TuplePages

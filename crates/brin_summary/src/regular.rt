@@ -58,13 +58,13 @@ pub fn put_tuples(
     let mut left = ranges;
     let mut sizes = sizes;
     while !left.is_empty() {
-        let count = tuples_on_page(sizes);
-        let on_page = &left[..usize::from(count)];
+        let count = usize::from(tuples_on_page(sizes));
+        let on_page = &left[..count];
         let page = regular_page(alloc, &mut tuple, kinds, pages_per_range, first, on_page)?;
         append(image, &page)?;
-        left = &left[usize::from(count)..];
-        sizes = &sizes[usize::from(count)..];
-        first += u32::from(count) * pages_per_range;
+        left = &left[count..];
+        sizes = &sizes[count..];
+        first += count as u32 * pages_per_range;
     }
     Ok(())
 }

@@ -15,11 +15,7 @@ pub fn revmap_pages(ranges: u32) -> u32
 
 /// The pointers to the tuples of these sizes, which regular pages from a block on take. An error
 /// means that no memory was left.
-pub fn tuple_pointers(
-    alloc: Global,
-    first: u32,
-    sizes: &[u16],
-) -> Result<Vec<RowPtr>, AllocError>
+pub fn tuple_pointers(alloc: Global, first: u32, sizes: &[u16]) -> Result<Vec<RowPtr>, AllocError>
     requires fit { All (λ size. size ≤ 8152) sizes.now }
     requires blocks { first + length sizes.now < 2 ^ 32 }
     ensures { IfOk result (λ pointers.
