@@ -16,3 +16,5 @@ pub mod Cutting
 pub mod Pointers
 -- regular pages
 pub mod TuplePages
+-- the whole file
+pub mod Files

@@ -95,6 +95,7 @@ fn tuple_sizes(alloc: Global, kinds: &BoundKinds, ranges: &[Summary]) -> Result<
     requires count { length ranges.now < 2 ^ 24 }
     requires sizes { All (λ range. tuple_size kinds.now range < 2 ^ 63) ranges.now }
     ensures sizes { IfOk result (λ sizes. sizes.items ≡ map (tuple_size kinds.now) ranges.now) }
+    ensures small { IfOk result (λ sizes. All (λ size. size ≤ 8152) sizes.items) }
     ensures fit { OnOk result (wide_range kinds.now ranges.now ≡ None) }
     ensures wide { IfErr result (IsTold kinds.now ranges.now) }
 {
