@@ -114,7 +114,7 @@ length-bounds_of (column ∷ columns) = let rest = length-bounds_of columns in o
 
 -- ---- the null bitmap
 
-length-null_flags : (columns : List ColumnSummary) → length (null_flags columns) ≡ 2 * length columns
+pub length-null_flags : (columns : List ColumnSummary) → length (null_flags columns) ≡ 2 * length columns
 length-null_flags columns =
     let both = length-append (map is_all_null columns) (map (λ (column : ColumnSummary). column.has_null) columns) in
     let first = length-map columns is_all_null in

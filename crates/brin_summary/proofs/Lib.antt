@@ -18,3 +18,5 @@ pub mod Pointers
 pub mod TuplePages
 -- the whole file
 pub mod Files
+-- the most bytes of a tuple
+pub mod Rooms

@@ -16,3 +16,6 @@ pub use laws::{
     summaries_are_joined,
 };
 pub use summary::Summary;
+
+#[cfg(test)]
+mod tests;

@@ -70,6 +70,13 @@ impl Summary {
         Ok(())
     }
 
+    /// How many columns there are.
+    pub fn columns(&self) -> usize
+        ensures { result ≡ length self.now.columns }
+    {
+        self.nulls.len()
+    }
+
     /// Whether there is a row.
     pub(crate) fn has_rows(&self) -> bool
         ensures { result ≡ self.now.has_rows }
