@@ -128,3 +128,32 @@ greater-null Nil = refl
 greater-null (Num a) = refl
 greater-null (Raw a) = refl
 greater-null (Items a) = refl
+
+-- the lesser is above neither, and neither is above the greater
+pub lesser-either : (a b : KeyVal) → (lesser a b ≡ a) ⊎ (lesser a b ≡ b)
+unfolding lesser
+lesser-either a b = chosen-either (column_cmp (ascending false)) total (column_cmp_exact (ascending false)) a b
+
+pub greater-either : (a b : KeyVal) → (greater a b ≡ a) ⊎ (greater a b ≡ b)
+unfolding greater
+greater-either a b = chosen-either (flip_args (column_cmp (ascending true))) back back-exact a b
+
+pub lesser-first : (a b : KeyVal) → is_gt (column_cmp (ascending false) (lesser a b) a) ≡ false
+unfolding lesser
+lesser-first a b = chosen-first (column_cmp (ascending false)) total (column_cmp_exact (ascending false)) a b
+
+pub lesser-second : (a b : KeyVal) → is_gt (column_cmp (ascending false) (lesser a b) b) ≡ false
+unfolding lesser
+lesser-second a b = chosen-second (column_cmp (ascending false)) total (column_cmp_exact (ascending false)) a b
+
+pub greater-first : (a b : KeyVal) → is_gt (column_cmp (ascending true) a (greater a b)) ≡ false
+unfolding greater
+greater-first a b = chosen-first (flip_args (column_cmp (ascending true))) back back-exact a b
+
+pub greater-second : (a b : KeyVal) → is_gt (column_cmp (ascending true) b (greater a b)) ≡ false
+unfolding greater
+greater-second a b = chosen-second (flip_args (column_cmp (ascending true))) back back-exact a b
+
+pub not-above : (nulls_first : Bool) (a b c : KeyVal) → is_gt (column_cmp (ascending nulls_first) a b) ≡ false
+    → is_gt (column_cmp (ascending nulls_first) b c) ≡ false → is_gt (column_cmp (ascending nulls_first) a c) ≡ false
+not-above nulls_first a b c = upto (column_cmp_total (ascending nulls_first)) a b c

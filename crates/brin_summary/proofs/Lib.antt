@@ -20,3 +20,7 @@ pub mod TuplePages
 pub mod Files
 -- the most bytes of a tuple
 pub mod Rooms
+-- rows and bounds
+pub mod Bounds
+-- the laws of pages
+pub mod PageLaws

@@ -28,8 +28,8 @@ data-room : (kinds : List ColType) (range : RangeSummary) → length (range_data
 unfolding range_data
 data-room kinds range = room-data 0 (bound_kinds kinds) (bounds_of range.columns)
 
-pub tuple-room : (kinds : List ColType) (range : RangeSummary) → tuple_size kinds range ≤ 20 + length range.columns + sum_by room_of (bounds_of range.columns)
-tuple-room kinds range =
+pub tuple_room : (kinds : List ColType) (range : RangeSummary) → tuple_size kinds range ≤ 20 + length range.columns + sum_by room_of (bounds_of range.columns)
+tuple_room kinds range =
     let is = tuple_size-is kinds range in
     let bitmap = bitmap-room range.columns in
     let data_ = data-room kinds range in
@@ -39,7 +39,7 @@ tuple-room kinds range =
 pub few_bounds : (kinds : List ColType) (range : RangeSummary) → length range.columns ≤ 32 → All (λ value. room_of value ≤ 10011) (bounds_of range.columns)
     → tuple_size kinds range < 2 ^ 63
 few_bounds kinds range few small =
-    let room = tuple-room kinds range in
+    let room = tuple_room kinds range in
     let sum = sum_by-le room_of 10011 (bounds_of range.columns) small in
     let count = length-bounds_of range.columns in
     omega arith

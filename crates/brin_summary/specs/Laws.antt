@@ -1,11 +1,20 @@
 -- What holds of summaries and of the file, whatever the rows are.
-use Rattle.std.specs.Prelude.{◌≡◌, ◌≢◌, ◌⊎◌, ◌↔◌, ℕ, true, false, List, [], ◌∷◌, ◌++◌, map, Contains, Some, slice_get}
+use Rattle.std.specs.Prelude.{◌≡◌, ◌≢◌, ◌⊎◌, ◌↔◌, ℕ, ◌+◌, ◌-◌, ◌*◌, ◌<◌, ◌≤◌, true, false, Some, None, List, [], ◌∷◌, ◌++◌, length, map, take, drop, replicate, All, Contains, slice_get}
+use Rattle.std.specs.List.{flat_map, sum_by}
 use Rattle.std.specs.List.Sorted.{IsPermutation}
 use Rattle.std.specs.declared.cmp.Ordering.TheVariants.{Greater}
 use Rattle.opclass.specs.declared.value.KeyVal.{KeyVal}
 use Rattle.opclass.specs.declared.value.KeyVal.TheVariants.{Nil}
 use Rattle.opclass.specs.Order.{column_cmp}
+use Rattle.opclass.specs.declared.types.ColType.{ColType}
+use Rattle.pg_bytes.specs.declared.row_ptr.RowPtr.{RowPtr}
+use Rattle.pg_bytes.specs.PageLayout.{page_size}
+use Rattle.tuple_data.specs.Laws.{room_of}
+use Rattle.brin_summary.specs.Answer.{Wide, tuple_size, wide_range}
+use Rattle.brin_summary.specs.File.{brin_file, page_counts, page_room, pages_of, pointers_from, pointers_on, revmap_pages, taken, tuples_from}
+use Rattle.brin_summary.specs.Page.{meta_page, regular_page, revmap_items, revmap_page}
 use Rattle.brin_summary.specs.Summary.{ColumnSummary, RangeSummary, ascending, joined, summary_of, value_in}
+use Rattle.brin_summary.specs.Tuple.{bounds_of, null_flags, tuple_most}
 
 -- ---- summaries
 
@@ -60,3 +69,81 @@ SummariesAreTight =
     (columns column : ℕ) (rows : List (List KeyVal)) (summary : ColumnSummary)
     → slice_get (summary_of columns rows).columns column ≡ Some summary
     → IsTight (map (value_in column) rows) summary
+
+-- a range without rows tells of no null, and no column has a value
+abbrev pub NoRowsHaveNoNull : Type 0
+NoRowsHaveNoNull =
+    (columns : ℕ) → null_flags (summary_of columns []).columns ≡ replicate columns true ++ replicate columns false
+
+-- ---- tuples
+
+-- a tuple takes no more than its header, its null bitmap and the room of its bounds
+abbrev pub TuplesTakeTheirRoom : Type 0
+TuplesTakeTheirRoom =
+    (kinds : List ColType) (range : RangeSummary)
+    → tuple_size kinds range ≤ 20 + length range.columns + sum_by room_of (bounds_of range.columns)
+
+-- a range whose tuple no page takes, behind ranges that all have room on one
+pub record IsLeastWide (kinds : List ColType) (ranges : List RangeSummary) (wide : Wide) : Type 0 where
+  pub range : RangeSummary
+  pub there : slice_get ranges wide.range ≡ Some range
+  pub size : wide.size ≡ tuple_size kinds range
+  pub wider : tuple_most < wide.size
+  pub before : All (λ earlier. tuple_size kinds earlier ≤ tuple_most) (take wide.range ranges)
+
+-- the range that is told is the least wide one
+abbrev pub TheLeastWideIsTold : Type 0
+TheLeastWideIsTold =
+    (kinds : List ColType) (ranges : List RangeSummary) (wide : Wide) → wide_range kinds ranges ≡ Some wide
+    → IsLeastWide kinds ranges wide
+
+-- where none is told, each has room on a page
+abbrev pub OtherwiseAllHaveRoom : Type 0
+OtherwiseAllHaveRoom =
+    (kinds : List ColType) (ranges : List RangeSummary) → wide_range kinds ranges ≡ None
+    → All (λ range. tuple_size kinds range ≤ tuple_most) ranges
+
+-- ---- pages
+
+-- the pages from the first on have exactly the tuples, in order
+abbrev pub PagesHoldTheTuples : Type 0
+PagesHoldTheTuples = (tuples : List (List ℕ)) → flat_map (λ page. page) (pages_of tuples) ≡ tuples
+
+-- no page has more than fits
+abbrev pub PagesHoldWhatFits : Type 0
+PagesHoldWhatFits =
+    (tuples : List (List ℕ)) → All (λ tuple. length tuple ≤ tuple_most) tuples
+    → All (λ page. taken (map length page) ≤ page_room) (pages_of tuples)
+
+-- no page is turned as long as the next tuple fits
+abbrev pub IsFilledBefore : List (List (List ℕ)) → Type 0
+IsFilledBefore [] = Unit {0}
+IsFilledBefore (page ∷ []) = Unit {0}
+IsFilledBefore (page ∷ next ∷ pages) =
+    (page_room < taken (map length (page ++ take 1 next))) × IsFilledBefore (next ∷ pages)
+
+abbrev pub PagesAreFilled : Type 0
+PagesAreFilled = (tuples : List (List ℕ)) → IsFilledBefore (pages_of tuples)
+
+-- ---- the revmap
+
+-- each tuple has a pointer
+abbrev pub EachTupleHasAPointer : Type 0
+EachTupleHasAPointer =
+    (first : ℕ) (tuples : List (List ℕ)) → length (pointers_from first (page_counts (map length tuples))) ≡ length tuples
+
+-- the tuple to which a pointer leads, of pages from a block on
+pub record LeadsTo (first : ℕ) (pages : List (List (List ℕ))) (pointer : RowPtr) (tuple : List ℕ) : Type 0 where
+  pub behind : first ≤ pointer.block
+  pub page : List (List ℕ)
+  pub on_page : slice_get pages (pointer.block - first) ≡ Some page
+  pub counted : 1 ≤ pointer.offset
+  pub there : slice_get page (pointer.offset - 1) ≡ Some tuple
+
+-- the pointer of each range leads to its tuple
+abbrev pub PointersLeadToTheTuples : Type 0
+PointersLeadToTheTuples =
+    (first range : ℕ) (tuples : List (List ℕ)) (pointer : RowPtr) (tuple : List ℕ)
+    → slice_get (pointers_from first (page_counts (map length tuples))) range ≡ Some pointer
+    → slice_get tuples range ≡ Some tuple
+    → LeadsTo first (pages_of tuples) pointer tuple

@@ -1,6 +1,6 @@
 //! What holds of the summaries and of the file, whatever the rows are.
 
-ghost use Rattle.brin_summary.specs.Laws.{JoinsAssociate, JoinsCommute, OrderDoesNotMatter, SameRowsHaveOneSummary, SummariesAreJoined};
+ghost use Rattle.brin_summary.specs.Laws.{EachTupleHasAPointer, JoinsAssociate, JoinsCommute, NoRowsHaveNoNull, OrderDoesNotMatter, OtherwiseAllHaveRoom, PagesAreFilled, PagesHoldTheTuples, PagesHoldWhatFits, PointersLeadToTheTuples, RowsLieWithin, SameRowsHaveOneSummary, SummariesAreJoined, SummariesAreTight, TheLeastWideIsTold, TuplesTakeTheirRoom};
 
 /// The summary of rows and of others is their summaries joined.
 #[tactic(auto, using(crate::proofs::Joining::summary_of_append))]
@@ -30,4 +30,71 @@ pub fn joins_commute()
 #[tactic(auto, using(crate::proofs::Joining::joined_assoc))]
 pub fn joins_associate()
     ensures { JoinsAssociate }
+{}
+
+/// Each value of each row lies between the bounds of its column, and each null is told.
+#[tactic(auto, using(crate::proofs::Bounds::rows_within))]
+pub fn rows_lie_within()
+    ensures { RowsLieWithin }
+{}
+
+/// A summary tells no more than there is: each bound is a value of the column, unless it has none,
+/// and a null that is told is there.
+#[tactic(auto, using(crate::proofs::Bounds::summaries_tight))]
+pub fn summaries_are_tight()
+    ensures { SummariesAreTight }
+{}
+
+/// A range without rows tells of no null, and of no column a value.
+#[tactic(auto, using(crate::proofs::Bounds::no_rows_no_null))]
+pub fn no_rows_have_no_null()
+    ensures { NoRowsHaveNoNull }
+{}
+
+/// A tuple takes at most 20 bytes, one more for each column, and the room of its bounds.
+#[tactic(auto, using(crate::proofs::Rooms::tuple_room))]
+pub fn tuples_take_their_room()
+    ensures { TuplesTakeTheirRoom }
+{}
+
+/// The regular pages from the first on have exactly the tuples of the ranges, in order.
+#[tactic(auto, using(crate::proofs::PageLaws::pages_hold))]
+pub fn pages_hold_the_tuples()
+    ensures { PagesHoldTheTuples }
+{}
+
+/// Where no tuple is larger than a page takes, no page has more than fits.
+#[tactic(auto, using(crate::proofs::PageLaws::pages_fit))]
+pub fn pages_hold_what_fits()
+    ensures { PagesHoldWhatFits }
+{}
+
+/// Each range has one pointer in the revmap.
+#[tactic(auto, using(crate::proofs::PageLaws::each_has_a_pointer))]
+pub fn each_tuple_has_a_pointer()
+    ensures { EachTupleHasAPointer }
+{}
+
+/// The pointer of each range leads to its tuple: by its block to the page, and by its offset, from
+/// 1 on, to the place there.
+pub fn pointers_lead_to_the_tuples()
+    ensures { PointersLeadToTheTuples }
+{}
+
+/// Where no range is told as wide, each has a tuple for which a page has room.
+#[tactic(auto, using(crate::proofs::PageLaws::none_is_wide))]
+pub fn otherwise_all_have_room()
+    ensures { OtherwiseAllHaveRoom }
+{}
+
+/// The range that is told as wide is the least whose tuple no page takes, with its tuple's size.
+#[tactic(auto, using(crate::proofs::PageLaws::least_wide))]
+pub fn the_least_wide_is_told()
+    ensures { TheLeastWideIsTold }
+{}
+
+/// A page is turned only where the next tuple hasn't room on it.
+#[tactic(auto, using(crate::proofs::PageLaws::pages_filled))]
+pub fn pages_are_filled()
+    ensures { PagesAreFilled }
 {}

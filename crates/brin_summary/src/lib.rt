@@ -12,8 +12,8 @@ mod tuple;
 
 pub use file::{BrinFault, pack};
 pub use laws::{
-    joins_associate, joins_commute, order_does_not_matter, same_rows_have_one_summary,
-    summaries_are_joined,
+    each_tuple_has_a_pointer, joins_associate, joins_commute, no_rows_have_no_null, order_does_not_matter, otherwise_all_have_room, pages_are_filled, pages_hold_the_tuples, pages_hold_what_fits, pointers_lead_to_the_tuples, rows_lie_within,
+    same_rows_have_one_summary, summaries_are_joined, summaries_are_tight, the_least_wide_is_told, tuples_take_their_room,
 };
 pub use summary::Summary;
 
