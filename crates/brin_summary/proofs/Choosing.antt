@@ -1,5 +1,5 @@
 -- The lesser and the greater of two values: whichever comes first, and however they are put together.
-use Rattle.std.proofs.Common.{◌≡◌, ◌⊎◌, Bool, true, false, inl, inr, refl, sym, ap, ◌∙◌, subst}
+use Rattle.std.proofs.Common.{◌≡◌, ◌⊎◌, Bool, true, false, inl, inr, refl, sym}
 use Rattle.std.proofs.lemmas.Cmp.{upto, tied_itself}
 use Rattle.std.specs.Cmp.{IsTotalOrder, back_total}
 use Rattle.std.specs.Ordering.{flip_args, is_gt, is_lt, ordering_reverse}

@@ -1,5 +1,5 @@
 -- The whole file, and the least wide range.
-use Rattle.std.proofs.Common.{◌≡◌, ℕ, suc, ◌+◌, ◌-◌, ◌*◌, ◌/◌, ◌<◌, ◌≤◌, ◌^◌, max, Bool, true, false, nat_lt, if◌then◌else◌, Some, None, Option, List, [], ◌∷◌, ◌++◌, length, map, drop, get_or, refl, sym, ap, ◌∙◌, arith, length-append}
+use Rattle.std.proofs.Common.{◌≡◌, ℕ, suc, ◌+◌, ◌*◌, ◌<◌, ◌≤◌, ◌^◌, Bool, true, nat_lt, if◌then◌else◌, Some, None, List, [], ◌∷◌, ◌++◌, length, map, drop, get_or, sym, ap, ◌∙◌, arith, length-append}
 use Rattle.std.proofs.lemmas.Bool.Decides.{nat_tests}
 use Rattle.std.proofs.lemmas.List.{append_assoc, drop_all}
 use Rattle.std.proofs.Math.Nat.{le-mul_of_pos_right}
@@ -7,7 +7,7 @@ use Rattle.std.proofs.Math.Seq.{drop-cons}
 use Rattle.std.specs.List.{flat_map}
 use Rattle.pg_bytes.specs.declared.row_ptr.RowPtr.{RowPtr}
 use Rattle.opclass.specs.declared.types.ColType.{ColType}
-use Rattle.brin_summary.specs.Answer.{Wide, tuple_size, wide_from, wide_range}
+use Rattle.brin_summary.specs.Answer.{tuple_size, wide_from, wide_range}
 use Rattle.brin_summary.specs.File.{brin_file, page_counts, pages_of, parts, pointers_from, revmap_of, revmap_pages, tuples_from}
 use Rattle.brin_summary.specs.Page.{meta_page, regular_page}
 use Rattle.brin_summary.specs.Summary.{RangeSummary}

@@ -1,13 +1,11 @@
 -- The flags of a null bitmap as a number, and as bytes.
-use Rattle.std.proofs.Common.{◌≡◌, ℕ, zero, suc, ◌+◌, ◌-◌, ◌*◌, ◌/◌, ◌^◌, ◌<◌, ◌≤◌, Bool, true, false, if◌then◌else◌, List, [], ◌∷◌, ◌++◌, length, map, drop, get_or, refl, sym, ap, ◌∙◌, arith, lit<, length-append, length-drop}
+use Rattle.std.proofs.Common.{◌≡◌, ℕ, zero, suc, ◌+◌, ◌*◌, ◌/◌, ◌^◌, ◌<◌, ◌≤◌, Bool, true, false, if◌then◌else◌, List, [], ◌∷◌, ◌++◌, length, map, drop, get_or, refl, sym, ap, ◌∙◌, arith, lit<, length-append, length-drop}
 use Rattle.std.proofs.Math.Nat.{pow-le-pow_right, pow-succ'}
-use Rattle.std.proofs.Math.Seq.{drop-cons}
 use Rattle.std.specs.List.{list_any}
 use Rattle.std.proofs.lemmas.List.{length-map}
 use mir.Val.{bool_byte}
 use Rattle.pg_bytes.specs.Numbers.{number_bytes}
 use Rattle.opclass.specs.declared.value.KeyVal.{KeyVal}
-use Rattle.opclass.specs.declared.value.KeyVal.TheVariants.{Nil}
 use Rattle.tuple_data.specs.Nulls.{is_null}
 use Rattle.brin_summary.specs.Pass.{bits_behind, columns_from, low_nulls}
 use Rattle.brin_summary.specs.Summary.{ColumnSummary}

@@ -1,13 +1,12 @@
 -- Summaries joined: in any order, and of the same rows.
-use Rattle.std.proofs.Common.{◌≡◌, ℕ, zero, suc, ◌+◌, ◌<◌, Bool, true, false, ◌||◌, List, [], ◌∷◌, ◌++◌, length, map, get_or, refl, sym, ap, ◌∙◌, arith}
+use Rattle.std.proofs.Common.{◌≡◌, ℕ, zero, suc, ◌<◌, Bool, true, false, ◌||◌, List, [], ◌∷◌, ◌++◌, length, map, refl, sym, ap, ◌∙◌, arith}
 use Rattle.std.specs.Prelude.{◌↔◌, Contains, slice_index_or}
 use Rattle.std.specs.List.{range_with_len}
 use Rattle.std.specs.List.Sorted.{IsPermutation}
 use Rattle.std.proofs.lemmas.List.Sorted.{Contains-permutation, IsPermutation-sym}
 use Rattle.opclass.specs.declared.value.KeyVal.{KeyVal}
-use Rattle.opclass.specs.declared.value.KeyVal.TheVariants.{Nil}
-use Rattle.tuple_data.specs.Nulls.{has_null, is_null}
-use Rattle.brin_summary.specs.Summary.{ColumnSummary, RangeSummary, column_summary, greatest, is_some_row, joined, joined_column, joined_columns, least, lesser, greater, summary_of, value_in}
+use Rattle.tuple_data.specs.Nulls.{is_null}
+use Rattle.brin_summary.specs.Summary.{ColumnSummary, RangeSummary, column_summary, is_some_row, joined, joined_column, joined_columns, summary_of, value_in}
 use Rattle.brin_summary.proofs.Choosing.{greater-assoc, greater-comm, greater-itself, greater-null, lesser-assoc, lesser-comm, lesser-itself, lesser-null}
 
 -- ---- truth values

@@ -24,3 +24,5 @@ pub mod Rooms
 pub mod Bounds
 -- the laws of pages
 pub mod PageLaws
+-- the law of the file
+pub mod FileLaws

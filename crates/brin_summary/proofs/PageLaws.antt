@@ -1,11 +1,11 @@
 -- What holds of pages and of pointers, whatever the tuples are.
-use Rattle.std.proofs.Common.{◌≡◌, ◌⊎◌, ℕ, zero, suc, ◌+◌, ◌-◌, ◌*◌, ◌<◌, ◌≤◌, Bool, true, false, nat_lt, nat_le, Some, None, Option, List, [], ◌∷◌, ◌++◌, length, map, take, drop, get_or, inl, inr, refl, sym, ap, subst, ◌∙◌, arith, length-append}
-use Rattle.std.specs.Prelude.{All, not, slice_get}
+use Rattle.std.proofs.Common.{◌≡◌, ℕ, zero, suc, ◌+◌, ◌-◌, ◌<◌, ◌≤◌, Bool, true, false, nat_lt, Some, None, Option, List, [], ◌∷◌, ◌++◌, length, map, take, drop, get_or, refl, sym, ap, subst, ◌∙◌, arith, length-append}
+use Rattle.std.specs.Prelude.{All, slice_get}
 use Rattle.std.specs.List.{flat_map, position_or_len, range_with_len}
 use Rattle.std.proofs.lemmas.Bool.Decides.{nat_tests}
-use Rattle.std.proofs.lemmas.List.{append_assoc, drop-map, get_or-drop, length-drop, length-map, length-take-le, take-append-drop, take-map, take_more, drop-drop}
+use Rattle.std.proofs.lemmas.List.{drop-map, get_or-drop, length-drop, length-map, length-take-le, take-append-drop, take-map, take_more}
 use Rattle.std.proofs.lemmas.List.FromFn.{length-range_with_len}
-use Rattle.std.proofs.lemmas.List.Elements.{All-drop, All-map}
+use Rattle.std.proofs.lemmas.List.Elements.{All-drop, All-map, All-take}
 use Rattle.pg_bytes.specs.declared.row_ptr.RowPtr.{RowPtr}
 use Rattle.opclass.specs.declared.types.ColType.{ColType}
 use Rattle.brin_summary.specs.Answer.{Wide, tuple_size, wide_from, wide_range}
@@ -157,7 +157,6 @@ unfolding pages_of page_counts pages-within
 pages_fit tuples fit =
     subst (λ (n : ℕ). All (λ page. taken (map length page) ≤ 8160) (parts (counts_within n (map length tuples)) tuples)) (sym (length-map tuples length))
     (fit-within (length tuples) tuples (omega arith) fit)
-
 
 -- ---- pointers
 
@@ -418,3 +417,26 @@ unfolding pages_of page_counts pages-within
 pages_filled tuples =
     subst (λ (n : ℕ). IsFilledBefore (parts (counts_within n (map length tuples)) tuples)) (sym (length-map tuples length))
     (filled-within (length tuples) tuples (omega arith))
+
+-- ---- what each tuple passes
+
+passes-within : (P : List ℕ → Type 0) (bound : ℕ) (tuples : List (List ℕ)) → length tuples ≤ bound → All P tuples
+    → All (λ page. All P page) (pages-within bound tuples)
+passes-within P bound [] inside passes = subst (All (λ page. All P page)) (sym (within-none bound)) (λ k d none. absurd (omega arith))
+passes-within P zero (tuple ∷ tuples) inside passes = absurd (omega arith)
+passes-within P (suc bound) (tuple ∷ tuples) inside passes =
+    let count : ℕ = page_count (map length (tuple ∷ tuples)) in
+    subst (All (λ page. All P page)) (sym (within-step bound tuple tuples))
+    (both (take count (tuple ∷ tuples)) (pages-within bound (drop count (tuple ∷ tuples))) (All-take P count (tuple ∷ tuples) passes)
+    (passes-within P bound (drop count (tuple ∷ tuples)) (shorter bound tuple tuples inside) (All-drop P count (tuple ∷ tuples) passes)))
+  where
+    both : (page : List (List ℕ)) (pages : List (List (List ℕ))) → All P page → All (λ page. All P page) pages → All (λ page. All P page) (page ∷ pages)
+    both page pages one rest zero d inside = one
+    both page pages one rest (suc k) d inside = rest k d (omega arith)
+
+-- each tuple of each page passes what all tuples do
+pub each-passes : (P : List ℕ → Type 0) (tuples : List (List ℕ)) → All P tuples → All (λ page. All P page) (pages_of tuples)
+unfolding pages_of page_counts pages-within
+each-passes P tuples passes =
+    subst (λ (n : ℕ). All (λ page. All P page) (parts (counts_within n (map length tuples)) tuples)) (sym (length-map tuples length))
+    (passes-within P (length tuples) tuples (omega arith) passes)

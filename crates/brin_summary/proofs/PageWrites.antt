@@ -5,7 +5,6 @@ use Rattle.std.proofs.lemmas.Grind.{flat_map-append}
 use Rattle.std.specs.List.{flat_map}
 use Rattle.pg_bytes.proofs.ItemPage.{length-page_header, written-empty_page, written-lower}
 use Rattle.pg_bytes.proofs.Writes.{length-number_bytes, length-zeros, written-first, written-middle, zeros-append}
-use Rattle.pg_bytes.specs.ItemPage.{item_page}
 use Rattle.pg_bytes.specs.Numbers.{number_bytes}
 use Rattle.pg_bytes.specs.PageLayout.{empty_page, page_header}
 use Rattle.pg_bytes.specs.Places.{written, zeros}

@@ -4,11 +4,11 @@ use Rattle.std.specs.Prelude.{All}
 use Rattle.std.specs.List.{flat_map}
 use Rattle.std.proofs.lemmas.List.{append_assoc, append-nil, length-drop, length-take-le, length-map, take_more, take_all}
 use Rattle.std.proofs.lemmas.List.Elements.{All-drop, All-get_or, All-take}
-use Rattle.std.proofs.lemmas.List.Sums.{sum_by-cons, sum_by_more_le}
+use Rattle.std.proofs.lemmas.List.Sums.{sum_by-cons}
 use Rattle.std.proofs.lemmas.List.{drop-map, take-map}
 use Rattle.std.proofs.Math.Nat.{add-mul, suc-mul}
 use Rattle.pg_bytes.proofs.ItemPage.{length-item_page, lower_of-item_page, upper_of-item_page, with_item-item_page}
-use Rattle.pg_bytes.specs.ItemPage.{item_page, lower_at, space_of, space_taken, upper_at}
+use Rattle.pg_bytes.specs.ItemPage.{item_page, lower_at, space_taken, upper_at}
 use Rattle.pg_bytes.specs.Numbers.{rounded_up}
 use Rattle.pg_bytes.specs.PageLayout.{lower_of, lower_with, upper_of, with_item}
 use Rattle.opclass.specs.declared.types.ColType.{ColType}

@@ -1,5 +1,5 @@
 -- The tuple of a range and its size.
-use Rattle.std.proofs.Common.{◌≡◌, ℕ, ◌+◌, ◌-◌, ◌*◌, ◌/◌, ◌<◌, ◌≤◌, ◌^◌, List, [], ◌∷◌, ◌++◌, length, refl, sym, ap, ◌∙◌, arith, length-append}
+use Rattle.std.proofs.Common.{◌≡◌, ℕ, ◌+◌, ◌-◌, ◌<◌, ◌≤◌, ◌^◌, List, [], ◌∷◌, ◌++◌, length, refl, sym, ap, ◌∙◌, arith, length-append}
 use Rattle.std.proofs.lemmas.List.{append_assoc}
 use Rattle.pg_bytes.specs.Numbers.{number_bytes, rounded_up}
 use Rattle.pg_bytes.specs.PageLayout.{aligned}
@@ -11,7 +11,7 @@ use Rattle.opclass.specs.declared.value.KeyVal.{KeyVal}
 use Rattle.tuple_data.specs.Data.{data_of}
 use Rattle.brin_summary.specs.Answer.{tuple_size}
 use Rattle.brin_summary.specs.Pass.{half_of}
-use Rattle.brin_summary.specs.Summary.{ColumnSummary, RangeSummary}
+use Rattle.brin_summary.specs.Summary.{RangeSummary}
 use Rattle.brin_summary.specs.Tuple.{bound_kinds, bounds_of, data_place, info_byte, null_bitmap, range_data, range_tuple, tuple_header}
 
 pub half_of-twice : (kinds : List ColType) → half_of (bound_kinds kinds) ≡ kinds

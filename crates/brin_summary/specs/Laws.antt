@@ -7,12 +7,12 @@ use Rattle.opclass.specs.declared.value.KeyVal.{KeyVal}
 use Rattle.opclass.specs.declared.value.KeyVal.TheVariants.{Nil}
 use Rattle.opclass.specs.Order.{column_cmp}
 use Rattle.opclass.specs.declared.types.ColType.{ColType}
-use Rattle.pg_bytes.specs.declared.row_ptr.RowPtr.{RowPtr}
 use Rattle.pg_bytes.specs.PageLayout.{page_size}
+use Rattle.pg_bytes.specs.declared.row_ptr.RowPtr.{RowPtr}
 use Rattle.tuple_data.specs.Laws.{room_of}
 use Rattle.brin_summary.specs.Answer.{Wide, tuple_size, wide_range}
 use Rattle.brin_summary.specs.File.{brin_file, page_counts, page_room, pages_of, pointers_from, pointers_on, revmap_pages, taken, tuples_from}
-use Rattle.brin_summary.specs.Page.{meta_page, regular_page, revmap_items, revmap_page}
+use Rattle.brin_summary.specs.Page.{meta_page, regular_page, revmap_page}
 use Rattle.brin_summary.specs.Summary.{ColumnSummary, RangeSummary, ascending, joined, summary_of, value_in}
 use Rattle.brin_summary.specs.Tuple.{bounds_of, null_flags, tuple_most}
 
@@ -147,3 +147,33 @@ PointersLeadToTheTuples =
     → slice_get (pointers_from first (page_counts (map length tuples))) range ≡ Some pointer
     → slice_get tuples range ≡ Some tuple
     → LeadsTo first (pages_of tuples) pointer tuple
+
+-- ---- the file
+
+-- the block of this number of a file
+unfoldable pub block_at : ℕ → List ℕ → List ℕ
+block_at block file = take page_size (drop (page_size * block) file)
+
+-- the pointers to the tuples of ranges
+abbrev pub range_pointers : List ColType → ℕ → List RangeSummary → List RowPtr
+range_pointers kinds pages_per_range ranges =
+    pointers_from (1 + revmap_pages (length ranges)) (page_counts (map length (tuples_from kinds pages_per_range 0 ranges)))
+
+-- each page stands at its block, and there are no more blocks
+pub record HasItsPages (kinds : List ColType) (pages_per_range : ℕ) (ranges : List RangeSummary) (file : List ℕ) : Type 0 where
+  pub blocks :
+      length file
+      ≡ page_size * (1 + (revmap_pages (length ranges) + length (pages_of (tuples_from kinds pages_per_range 0 ranges))))
+  pub meta : block_at 0 file ≡ meta_page pages_per_range (revmap_pages (length ranges))
+  pub revmap :
+      (page : ℕ) → page < revmap_pages (length ranges)
+      → block_at (1 + page) file ≡ revmap_page (pointers_on (range_pointers kinds pages_per_range ranges) page)
+  pub regular :
+      (at : ℕ) (page : List (List ℕ)) → slice_get (pages_of (tuples_from kinds pages_per_range 0 ranges)) at ≡ Some page
+      → block_at (1 + revmap_pages (length ranges) + at) file ≡ regular_page page
+
+-- where no range is wide, the file has its pages, each at its block
+abbrev pub FileHasItsPages : Type 0
+FileHasItsPages =
+    (kinds : List ColType) (pages_per_range : ℕ) (ranges : List RangeSummary) → wide_range kinds ranges ≡ None
+    → HasItsPages kinds pages_per_range ranges (brin_file kinds pages_per_range ranges)

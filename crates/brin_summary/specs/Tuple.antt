@@ -1,5 +1,5 @@
 -- The tuple of a range (BrinTuple of brin_tuple.h, brin_form_tuple of brin_tuple.c).
-use Rattle.std.specs.Prelude.{ℕ, ◌+◌, ◌*◌, ◌/◌, Bool, true, false, ◌||◌, if◌then◌else◌, List, [], ◌∷◌, ◌++◌, length, map}
+use Rattle.std.specs.Prelude.{ℕ, ◌+◌, ◌*◌, ◌/◌, Bool, if◌then◌else◌, List, [], ◌∷◌, ◌++◌, length, map}
 use Rattle.std.specs.List.{flat_map, list_any}
 use Rattle.pg_bytes.specs.Numbers.{number_bytes, rounded_up}
 use Rattle.pg_bytes.specs.PageLayout.{aligned}

@@ -1,6 +1,6 @@
 //! What holds of the summaries and of the file, whatever the rows are.
 
-ghost use Rattle.brin_summary.specs.Laws.{EachTupleHasAPointer, JoinsAssociate, JoinsCommute, NoRowsHaveNoNull, OrderDoesNotMatter, OtherwiseAllHaveRoom, PagesAreFilled, PagesHoldTheTuples, PagesHoldWhatFits, PointersLeadToTheTuples, RowsLieWithin, SameRowsHaveOneSummary, SummariesAreJoined, SummariesAreTight, TheLeastWideIsTold, TuplesTakeTheirRoom};
+ghost use Rattle.brin_summary.specs.Laws.{EachTupleHasAPointer, FileHasItsPages, JoinsAssociate, JoinsCommute, NoRowsHaveNoNull, OrderDoesNotMatter, OtherwiseAllHaveRoom, PagesAreFilled, PagesHoldTheTuples, PagesHoldWhatFits, PointersLeadToTheTuples, RowsLieWithin, SameRowsHaveOneSummary, SummariesAreJoined, SummariesAreTight, TheLeastWideIsTold, TuplesTakeTheirRoom};
 
 /// The summary of rows and of others is their summaries joined.
 #[tactic(auto, using(crate::proofs::Joining::summary_of_append))]
@@ -97,4 +97,10 @@ pub fn the_least_wide_is_told()
 #[tactic(auto, using(crate::proofs::PageLaws::pages_filled))]
 pub fn pages_are_filled()
     ensures { PagesAreFilled }
+{}
+
+/// Where each tuple has room on a page, the file is its meta page, the revmap and the regular pages,
+/// each at its block.
+pub fn file_has_its_pages()
+    ensures { FileHasItsPages }
 {}

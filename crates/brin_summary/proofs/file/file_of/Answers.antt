@@ -1,5 +1,4 @@
-use Rattle.std.proofs.Common.{◌≡◌, ◌++◌, [], sym, ap, ◌∙◌}
-use Rattle.brin_summary.specs.File.{revmap_of}
+use Rattle.std.proofs.Common.{◌++◌, [], ap, ◌∙◌}
 use Rattle.brin_summary.proofs.Files.{room-left, written-file}
 use Rattle.brin_summary.proofs.file.file_of.Goals as goal
 

@@ -1,4 +1,3 @@
-use Rattle.std.proofs.Common.{◌≡◌, get_or, ap, ◌∙◌, rules}
 use Rattle.brin_summary.proofs.PageWrites.{written-next, written-revmap_page}
 use Rattle.brin_summary.proofs.page.revmap_page.Goals as goal
 

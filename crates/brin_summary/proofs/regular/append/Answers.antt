@@ -1,4 +1,4 @@
-use Rattle.std.proofs.Common.{◌≡◌, List, ℕ, ◌++◌, ◌*◌, OnOk, subst, arith, length}
+use Rattle.std.proofs.Common.{◌≡◌, List, ℕ, OnOk, subst, arith}
 use Rattle.pg_bytes.proofs.Growth.{placed-end}
 use Rattle.brin_summary.proofs.regular.append.Goals as goal
 

@@ -1,7 +1,5 @@
-use Rattle.std.proofs.Common.{◌≡◌, ◌<◌, ◌≤◌, ◌*◌, ◌+◌, ◌++◌, ℕ, length, take, subst, sym, ap, ◌∙◌, arith}
+use Rattle.std.proofs.Common.{◌<◌, length, ◌∙◌, arith}
 use Rattle.std.proofs.lemmas.Bool.Decides.{nat_tests}
-use Rattle.brin_summary.specs.File.{taken, tuples_from}
-use Rattle.brin_summary.specs.Page.{regular_page}
 use Rattle.brin_summary.proofs.TuplePages.{all-put, more-put, next-fit, next-room}
 use Rattle.brin_summary.proofs.regular.put_tuples.Goals as goal
 

@@ -1,4 +1,4 @@
-use Rattle.std.proofs.Common.{◌≡◌, length, ap, sym, ◌∙◌, arith}
+use Rattle.std.proofs.Common.{length, ap, ◌∙◌, arith}
 use Rattle.brin_summary.specs.Page.{regular_page}
 use Rattle.brin_summary.proofs.TuplePages.{all-placed, next-block, next-place, next-tuple}
 use Rattle.brin_summary.proofs.regular.regular_page.Goals as goal

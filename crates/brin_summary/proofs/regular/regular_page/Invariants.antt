@@ -1,5 +1,4 @@
 use Rattle.std.proofs.Common.{◌≡◌, ◌+◌, ◌*◌, take}
-use Rattle.std.specs.Prelude.{slice_index_or}
 use Rattle.brin_summary.specs.File.{tuples_from}
 use Rattle.brin_summary.specs.Page.{regular_page}
 use Rattle.brin_summary.proofs.regular.regular_page.Given as goal

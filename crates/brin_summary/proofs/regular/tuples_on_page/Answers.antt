@@ -1,4 +1,4 @@
-use Rattle.std.proofs.Common.{◌≡◌, ◌<◌, ◌≤◌, ℕ, length, get_or, ap, arith}
+use Rattle.std.proofs.Common.{arith}
 use Rattle.brin_summary.proofs.Cutting.{broken-counted, front-few, whole-counted}
 use Rattle.brin_summary.proofs.regular.tuples_on_page.Goals as goal
 

@@ -1,7 +1,3 @@
-use Rattle.std.proofs.Common.{◌≡◌, ◌∷◌, [], ◌+◌, ◌-◌, ◌++◌, ℕ, List, sym, ap, ◌∙◌, arith}
-use Rattle.std.proofs.lemmas.List.{append_assoc}
-use Rattle.pg_bytes.specs.declared.row_ptr.RowPtr.{RowPtr}
-use Rattle.brin_summary.specs.File.{pointers_to}
 use Rattle.brin_summary.proofs.Pointers.{push-more}
 use Rattle.brin_summary.proofs.revmap.push_pointers.Goals as goal
 

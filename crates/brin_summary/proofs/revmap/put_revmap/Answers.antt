@@ -1,6 +1,6 @@
-use Rattle.std.proofs.Common.{◌≡◌, ◌<◌, ◌++◌, ◌*◌, ℕ, length, sym, ap, ◌∙◌, arith, length-append}
+use Rattle.std.proofs.Common.{◌++◌, length, sym, ap, ◌∙◌, arith, length-append}
 use Rattle.std.proofs.lemmas.List.{append_assoc, append-nil}
-use Rattle.brin_summary.specs.File.{pointers_on, revmap_of}
+use Rattle.brin_summary.specs.File.{revmap_of}
 use Rattle.brin_summary.specs.Page.{revmap_page}
 use Rattle.brin_summary.proofs.Pointers.{few-on-page, length-revmap_of, revmap-more, revmap-none}
 use Rattle.brin_summary.proofs.revmap.put_revmap.Goals as goal

@@ -1,6 +1,6 @@
-use Rattle.std.proofs.Common.{◌≡◌, ◌<◌, ◌++◌, ℕ, length, sym, ap, ◌∙◌, arith}
+use Rattle.std.proofs.Common.{◌<◌, ◌++◌, ℕ, length, sym, ap, ◌∙◌, arith}
 use Rattle.std.proofs.lemmas.Bool.Decides.{nat_tests}
-use Rattle.brin_summary.specs.File.{page_count, pointers_to}
+use Rattle.brin_summary.specs.File.{pointers_to}
 use Rattle.brin_summary.proofs.Pointers.{all-points, more-points}
 use Rattle.brin_summary.proofs.revmap.tuple_pointers.Goals as goal
 

@@ -1,7 +1,6 @@
-use Rattle.std.proofs.Common.{◌++◌, map, length, ap, sym, ◌∙◌, arith}
-use Rattle.brin_summary.specs.Pass.{bits_behind}
+use Rattle.std.proofs.Common.{map, length, ap, sym, arith}
 use Rattle.brin_summary.specs.Summary.{ColumnSummary}
-use Rattle.brin_summary.specs.Tuple.{bits_of, is_all_null}
+use Rattle.brin_summary.specs.Tuple.{is_all_null}
 use Rattle.brin_summary.proofs.Flags.{bits-behind, length-bounds_of, low_nulls-columns}
 use Rattle.brin_summary.proofs.tuple.null_bits.Goals as goal
 

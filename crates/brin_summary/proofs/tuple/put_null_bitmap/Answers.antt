@@ -1,4 +1,4 @@
-use Rattle.std.proofs.Common.{◌≡◌, List, ℕ, ◌++◌, take, OnOk, refl, sym, ap, subst, ◌∙◌, rules}
+use Rattle.std.proofs.Common.{◌≡◌, List, ℕ, ◌++◌, take, OnOk, ap, subst, ◌∙◌, rules}
 use Rattle.pg_bytes.specs.Numbers.{number_bytes}
 use Rattle.tuple_data.proofs.Pieces.{number_bytes-front}
 use Rattle.brin_summary.proofs.tuple.put_null_bitmap.Goals as goal

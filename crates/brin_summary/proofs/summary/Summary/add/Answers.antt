@@ -1,7 +1,6 @@
-use Rattle.std.proofs.Common.{◌*◌, ℕ, [], ◌∷◌, length, sym, ap, ◌∙◌, arith}
+use Rattle.std.proofs.Common.{[], ◌∷◌, length, sym, ap, ◌∙◌, arith}
 use Rattle.std.proofs.lemmas.List.{with_items_is}
-use Rattle.brin_summary.specs.Summary.{joined, joined_columns, summary_of}
-use Rattle.brin_summary.specs.Pass.{columns_from, row_columns}
+use Rattle.brin_summary.specs.Summary.{joined, summary_of}
 use Rattle.brin_summary.proofs.Storing.{kept-nulls, kept-row}
 use Rattle.brin_summary.proofs.Joining.{summary_of_append}
 use Rattle.brin_summary.proofs.summary.Summary.add.Goals as goal

@@ -1,4 +1,4 @@
-use Rattle.std.proofs.Common.{length, refl, sym, ap, ◌∙◌}
+use Rattle.std.proofs.Common.{length, sym, ap, ◌∙◌}
 use Rattle.brin_summary.specs.Summary.{RangeSummary}
 use Rattle.brin_summary.proofs.Storing.{length-columns_from}
 use Rattle.brin_summary.proofs.summary.Summary.columns.Goals as goal

@@ -1,4 +1,4 @@
-use Rattle.std.proofs.Common.{ap, ◌*◌, ◌∙◌, replicate, false, ℕ, rules}
+use Rattle.std.proofs.Common.{ap, ◌*◌, ◌∙◌, replicate, ℕ, rules}
 use Rattle.opclass.specs.declared.value.KeyVal.TheVariants.{Nil}
 use Rattle.brin_summary.proofs.Storing.{no-rows}
 use Rattle.brin_summary.proofs.summary.Summary.empty.Goals as goal

@@ -1,4 +1,4 @@
-use Rattle.std.proofs.Common.{◌*◌, ℕ, length, refl, sym, ap, ◌∙◌, arith}
+use Rattle.std.proofs.Common.{length, refl, ap, ◌∙◌, arith}
 use Rattle.std.proofs.lemmas.List.{with_items_is}
 use Rattle.brin_summary.proofs.Storing.{kept-nulls, kept-join}
 use Rattle.brin_summary.proofs.summary.Summary.union.Goals as goal

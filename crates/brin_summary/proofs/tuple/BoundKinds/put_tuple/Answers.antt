@@ -1,4 +1,4 @@
-use Rattle.std.proofs.Common.{[], length, ap, sym, ◌∙◌, arith}
+use Rattle.std.proofs.Common.{[], length, ap, arith}
 use Rattle.tuple_data.specs.Data.{data_of}
 use Rattle.brin_summary.proofs.Tuples.{data-within, put-data-few, put-data-is, put-few, put-tuple-is}
 use Rattle.brin_summary.proofs.tuple.BoundKinds.put_tuple.Goals as goal

@@ -1,7 +1,4 @@
-use Rattle.std.proofs.Common.{◌≡◌, ◌+◌, length, ap, sym, ◌∙◌, arith}
-use Rattle.pg_bytes.specs.Numbers.{rounded_up}
-use Rattle.tuple_data.specs.Data.{data_of}
-use Rattle.brin_summary.specs.Tuple.{data_place, range_data}
+use Rattle.std.proofs.Common.{length, ap, sym, arith}
 use Rattle.brin_summary.proofs.Tuples.{data-within, put-data-is, tuple_size-is}
 use Rattle.brin_summary.proofs.tuple.BoundKinds.tuple_size.Goals as goal
 
