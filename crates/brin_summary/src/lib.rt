@@ -69,7 +69,7 @@ pub use laws::{
     same_rows_have_one_summary, summaries_are_joined, summaries_are_tight, the_least_wide_is_told,
     tuples_take_their_room,
 };
-pub use summary::Summary;
+pub use summary::{Summaries, Summary};
 
 #[cfg(test)]
 mod tests;

@@ -7,6 +7,7 @@ ghost use Rattle.brin_summary.specs.Tuple.{bounds_of};
 
 use crate::bound::{is_null, new_high, new_low, take_greater, take_lesser};
 use opclass::{KeyList, KeyVal};
+use pg_bytes::Items;
 use std::alloc::{AllocError, Global};
 use std::marker::Model;
 
@@ -21,6 +22,9 @@ pub struct Summary {
     bounds: Vec<KeyVal>,
     nulls: Vec<bool>,
 }
+
+/// Summaries of ranges in their order, as each worker has them.
+pub type Summaries = Items<Summary>;
 
 impl Model for Summary {
     ghost use Rattle.std.specs.Prelude.{◌≡◌, ◌*◌, length};
@@ -70,6 +74,26 @@ impl Summary {
         Ok(())
     }
 
+    /// Takes the rows of another summary in, which takes no memory.
+    pub fn union(&mut self, other: Summary)
+        requires { length other.columns ≡ length self.old.columns }
+        ensures { self.new ≡ joined self.old other }
+    {
+        let Summary {
+            has_rows,
+            bounds: mut other_bounds,
+            nulls: other_nulls,
+            ..
+        } = other;
+        join_columns(
+            &mut self.bounds,
+            &mut self.nulls,
+            &mut other_bounds,
+            &other_nulls,
+        );
+        self.has_rows |= has_rows;
+    }
+
     /// How many columns there are.
     pub fn columns(&self) -> usize
         ensures { result ≡ length self.now.columns }
@@ -97,26 +121,6 @@ impl Summary {
     {
         &self.nulls
     }
-
-    /// Takes the rows of another summary in, which takes no memory.
-    pub fn union(&mut self, other: Summary)
-        requires { length other.columns ≡ length self.old.columns }
-        ensures { self.new ≡ joined self.old other }
-    {
-        let Summary {
-            has_rows,
-            bounds: mut other_bounds,
-            nulls: other_nulls,
-            ..
-        } = other;
-        join_columns(
-            &mut self.bounds,
-            &mut self.nulls,
-            &mut other_bounds,
-            &other_nulls,
-        );
-        self.has_rows |= has_rows;
-    }
 }
 
 // So many nulls.
@@ -124,7 +128,7 @@ fn no_values(alloc: Global, count: usize) -> Result<Vec<KeyVal>, AllocError>
     ensures { IfOk result (λ values. values.items ≡ replicate count Nil) }
 {
     let mut values = Vec::with_capacity(alloc, count)?;
-    for place in 0..count {
+    for _place in 0..count {
         values.push(KeyVal::Nil)?;
     }
     Ok(values)
