@@ -9,7 +9,7 @@ use Rattle.tuple_data.specs.Data.{data_of}
 use Rattle.tuple_data.specs.Nulls.{is_null}
 use Rattle.brin_summary.specs.Summary.{ColumnSummary, RangeSummary}
 
--- the most bytes of a tuple, BrinMaxItemSize: what a page has beside its header, one line pointer and its special space
+-- the most bytes of a tuple, BrinMaxItemSize of brin_pageops.c: what a page has beside its header, one line pointer and its special space
 abbrev pub tuple_most : ℕ
 tuple_most = 8152
 

@@ -14,7 +14,7 @@ use std::alloc::{AllocError, Global};
 use std::marker::Model;
 use tuple_data::{data_size, put_data};
 
-/// The most bytes of a range's tuple (`BrinMaxItemSize` of `brin_page.h`).
+/// The most bytes of a range's tuple (`BrinMaxItemSize` of `brin_pageops.c`).
 pub const TUPLE_MOST: u64 = 8152;
 
 // The bytes of a tuple's first block and info byte (`SizeOfBrinTuple`).
