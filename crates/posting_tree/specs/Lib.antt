@@ -10,3 +10,5 @@ pub mod Reading
 pub mod Special
 -- posting trees
 pub mod PostingTree
+-- what the passes over pointers keep
+pub mod Pass

@@ -4,7 +4,8 @@
 mod decoding;
 mod encoding;
 mod tree;
+mod varbyte;
 
 pub use decoding::decode;
-pub use encoding::encode;
+pub use encoding::{encode, put_segment};
 pub use tree::build_tree;
