@@ -1,5 +1,6 @@
 -- Bytes that stay in front of others.
-use Rattle.std.proofs.Common.{◌≡◌, ℕ, ◌≤◌, List, ◌++◌, length, take, refl, sym, ap, ◌∙◌, arith, length-take}
+use Rattle.std.proofs.Common.{◌≡◌, ℕ, ◌≤◌, List, ◌++◌, length, take, refl, sym, ap, ◌∙◌, arith, length-take, ◌<◌, ◌==◌, true, false}
+use Rattle.std.proofs.lemmas.Bool.Decides.{nat_tests}
 use Rattle.std.proofs.lemmas.List.{take-append-le, take-take, take_all, take_at}
 use Rattle.posting_tree.specs.Pass.{IsInFront}
 
@@ -26,3 +27,10 @@ pub front-same : (front bytes other : List ℕ) (place : ℕ) → length front �
     → IsInFront front other
 front-same front bytes other place inside same h =
     sym (take-take (length front) place other inside) ∙ ap (take (length front)) same ∙ take-take (length front) place bytes inside ∙ h
+
+-- what a test of a length says
+pub not-empty : (n : ℕ) → false ≡ (n == 0) → 0 < n
+not-empty n e = grind (arith, nat_tests)
+
+pub is-empty : (n : ℕ) → true ≡ (n == 0) → n ≤ 0
+is-empty n e = grind (arith, nat_tests)

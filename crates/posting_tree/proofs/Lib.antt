@@ -2,6 +2,14 @@
 pub mod Fronts
 -- numbers in bytes of seven bits
 pub mod Varbytes
+-- the number at the front of bytes
+pub mod ReadVarbytes
+-- deltas to the end of bytes
+pub mod ReadDeltas
+-- segments at the front of bytes
+pub mod Heads
+-- segments to the end of bytes
+pub mod ReadSegments
 -- segments as they are put
 pub mod Segments
 -- the deltas of pointers that ascend

@@ -1,5 +1,5 @@
-ghost use Rattle.std.specs.Prelude.{◌≡◌, ◌++◌, ◌<◌, ◌^◌, OnOk, OnErr};
-ghost use Rattle.posting_tree.specs.Pass.{IsInFront};
+ghost use Rattle.std.specs.Prelude.{◌≡◌, ◌++◌, ◌<◌, ◌≤◌, ◌^◌, IfSome, List, MatchOption, OnErr, OnOk, ℕ};
+ghost use Rattle.posting_tree.specs.Pass.{IsInFront, StartsWithDelta, StartsWithGroups};
 ghost use Rattle.posting_tree.specs.Segments.{varbyte};
 
 use std::alloc::AllocError;
@@ -24,4 +24,39 @@ pub(crate) fn put_varbyte(out: &mut Vec<u8>, x: u64) -> Result<(), AllocError>
     }
     out.push(rest as u8)?;
     Ok(())
+}
+
+// The one number whose bytes stand at the front of bytes, and the bytes behind them
+// (`decode_varbyte` of `ginpostinglist.c`). None comes exactly where there is none.
+pub(crate) fn read_varbyte(bytes: &[u8]) -> Option<(u64, &[u8])>
+    ensures { MatchOption result
+        ((x : ℕ) (left : List ℕ) → StartsWithDelta bytes.now x left → ⊥)
+        (λ read. StartsWithDelta bytes.now read.0 read.1.now) }
+{
+    read_groups(bytes, MOST_BYTES)
+}
+
+// The same, where the number takes at most so many bytes.
+fn read_groups(bytes: &[u8], most: usize) -> Option<(u64, &[u8])>
+    requires { most ≤ 7 }
+    ensures read { MatchOption result
+        ((x : ℕ) (left : List ℕ) → StartsWithGroups most bytes.now x left → ⊥)
+        (λ read. StartsWithGroups most bytes.now read.0 read.1.now) }
+    ensures bound { IfSome result (λ read. read.0 < 2 ^ 49) }
+{
+    let [byte, behind @ ..] = bytes else {
+        return None;
+    };
+    if most == 0 {
+        return None;
+    }
+    let low = u64::from(*byte);
+    if low < GROUP {
+        return Some((low, behind));
+    }
+    let (high, left) = read_groups(behind, most - 1)?;
+    if high == 0 {
+        return None;
+    }
+    Some((low - GROUP + high * GROUP, left))
 }
