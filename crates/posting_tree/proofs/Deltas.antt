@@ -1,10 +1,11 @@
 -- The deltas of pointers that ascend.
-use Rattle.std.proofs.Common.{◌≡◌, ℕ, ◌+◌, ◌-◌, ◌<◌, inl, inr, List, [], ◌∷◌, ◌++◌, length, take, drop, sym, ap, subst, ◌∙◌, arith, get_or}
+use Rattle.std.proofs.Common.{◌≡◌, ℕ, ◌^◌, ◌+◌, ◌-◌, ◌<◌, inl, inr, List, [], ◌∷◌, ◌++◌, length, take, drop, sym, ap, subst, ◌∙◌, arith, get_or}
 use Rattle.std.proofs.lemmas.List.{append_assoc, append-nil, drop_more, take_more}
 use Rattle.pg_bytes.specs.Pointers.{IsBefore}
 use Rattle.pg_bytes.specs.declared.row_ptr.RowPtr.{RowPtr}
+use Rattle.posting_tree.proofs.Lists.{all-push}
 use Rattle.posting_tree.specs.Pass.{AscendBehind}
-use Rattle.posting_tree.specs.Segments.{AreAscending, IsBeforeFirst, IsStorable, deltas_behind, number_of, varbyte}
+use Rattle.posting_tree.specs.Segments.{AreAscending, HaveBlocks, IsBeforeFirst, IsStorable, deltas_behind, number_of, varbyte}
 
 -- the numbers of storable pointers are ordered as the pointers
 pub number-before : (p q : RowPtr) → IsStorable p → IsStorable q → IsBefore p q → number_of p < number_of q
@@ -54,3 +55,8 @@ step old now next number last new ptrs at d inside t a number_is put =
           (telescopes-more old now next number last (take at ptrs) ptr t (put ∙ ap (λ (n : ℕ). now ++ varbyte (n - last)) number_is)));
       ascends = subst (λ (n : ℕ). AscendBehind n (drop (at + 1) ptrs)) (sym number_is) ascends.1;
     }
+
+pub blocks-more : (ptrs : List RowPtr) (at : ℕ) (d : RowPtr) → at < length ptrs → HaveBlocks (take at ptrs) → (get_or ptrs at d).block < 2 ^ 32
+    → HaveBlocks (take (at + 1) ptrs)
+blocks-more ptrs at d inside before here =
+    subst HaveBlocks (sym (take_more ptrs at d inside)) (all-push (λ ptr. ptr.block < 2 ^ 32) (take at ptrs) (get_or ptrs at d) before here)

@@ -1,3 +1,5 @@
+-- lists that are joined
+pub mod Lists
 -- bytes that stay in front of others
 pub mod Fronts
 -- numbers in bytes of seven bits
@@ -10,6 +12,8 @@ pub mod ReadDeltas
 pub mod Heads
 -- segments to the end of bytes
 pub mod ReadSegments
+-- pages of a posting tree as they are put
+pub mod DataWrites
 -- segments as they are put
 pub mod Segments
 -- the deltas of pointers that ascend

@@ -12,3 +12,5 @@ pub mod Special
 pub mod PostingTree
 -- what the passes over pointers keep
 pub mod Pass
+-- what the building of a posting tree keeps
+pub mod Building

@@ -24,6 +24,10 @@ abbrev pub AreAscending : List RowPtr → Type 0
 AreAscending [] = ⊤
 AreAscending (ptr ∷ others) = IsStorable ptr × IsBeforeFirst ptr others × AreAscending others
 
+-- pointers of blocks in four bytes
+abbrev pub HaveBlocks : List RowPtr → Type 0
+HaveBlocks ptrs = AllByRecursion (λ ptr. ptr.block < 2 ^ 32) ptrs
+
 -- ---- one segment
 
 -- a pointer as one number (itemptr_to_uint64)
@@ -72,7 +76,7 @@ pub record IsPart (ptrs : List RowPtr) : Type 0 where
 -- the bytes of a list of pointers that is cut into segments
 pub record AreSegmentsOf (ptrs : List RowPtr) (bytes : List ℕ) : Type 0 where
   pub ascending : AreAscending ptrs
-  pub blocks : AllByRecursion (λ ptr. ptr.block < 2 ^ 32) ptrs
+  pub blocks : HaveBlocks ptrs
   pub parts : List (List RowPtr)
   pub each : AllByRecursion IsPart parts
   pub whole : ptrs ≡ flat_map (λ part. part) parts

@@ -3,7 +3,7 @@ ghost use Rattle.pg_bytes.specs.Numbers.{number_bytes};
 ghost use Rattle.pg_bytes.specs.Places.{written, zeros};
 ghost use Rattle.pg_bytes.specs.Pointers.{row_pointer_bytes};
 ghost use Rattle.posting_tree.specs.Pass.{AscendBehind, IsInFront};
-ghost use Rattle.posting_tree.specs.Segments.{AreAscending, deltas_behind, number_of, segment};
+ghost use Rattle.posting_tree.specs.Segments.{AreAscending, HaveBlocks, deltas_behind, number_of, segment};
 
 use crate::varbyte::{MOST_BYTES, put_varbyte};
 use byteorder::{ByteOrder, LittleEndian};
@@ -64,6 +64,7 @@ pub(crate) fn put_some(out: &mut Vec<u8>, ptrs: &[RowPtr], room: usize) -> Resul
         out.new.items ≡ out.old.items ++ segment (take count ptrs.now)) }
     ensures within { IfOk result (λ count.
         length out.new.items ≤ length out.old.items + room) }
+    ensures blocks { IfOk result (λ count. HaveBlocks (take count ptrs.now)) }
     ensures whole { IfOk result (λ count.
         7 * length ptrs.now + 8 ≤ room → count ≡ length ptrs.now) }
     ensures err { OnErr result (IsInFront out.old.items out.new.items) }
@@ -91,6 +92,7 @@ fn put_head(out: &mut Vec<u8>, first: RowPtr) -> Result<(), AllocError>
 pub(crate) fn number_of(ptr: &RowPtr) -> u64
     ensures number { result ≡ number_of ptr.now }
     ensures bound { result < 2 ^ 44 }
+    ensures block { ptr.now.block < 2 ^ 32 }
 {
     u64::from(ptr.block) * OFFSETS + u64::from(ptr.offset)
 }
@@ -109,6 +111,7 @@ fn put_deltas(
         ≡ out.old.items ++ deltas_behind number (take count ptrs.now)) }
     ensures within { IfOk result (λ count.
         length out.new.items ≤ max end (length out.old.items)) }
+    ensures blocks { IfOk result (λ count. HaveBlocks (take count ptrs.now)) }
     ensures whole { IfOk result (λ count.
         length out.old.items + 7 * length ptrs.now ≤ end → count ≡ length ptrs.now) }
     ensures err { OnErr result (IsInFront out.old.items out.new.items) }

@@ -1,6 +1,7 @@
 //! Posting lists and posting trees: the row pointers of one key of a GIN index, as bytes.
 #![tactic(auto)]
 
+mod data_page;
 mod decoding;
 mod encoding;
 mod tree;

@@ -1,5 +1,5 @@
 use Rattle.std.proofs.Common.{◌≡◌, ℕ, ◌-◌, ◌++◌, length, take, ap, ◌∙◌, arith, length-append}
-use Rattle.posting_tree.proofs.Deltas.{Step, step, telescoped}
+use Rattle.posting_tree.proofs.Deltas.{Step, blocks-more, step, telescoped}
 use Rattle.posting_tree.proofs.Fronts.{front-added}
 use Rattle.posting_tree.proofs.Varbytes.{length-varbyte}
 use Rattle.posting_tree.specs.Segments.{deltas_behind, varbyte}
@@ -20,6 +20,7 @@ loop-at-preserved c =
       ascends = one.ascends;
       within = omega arith;
       room = omega arith;
+      blocks = blocks-more _ _ _ c.loop-at-test.true c.loop-at.invariant.blocks c.number_of-next.ensures.block;
       front = front-added _ _ _ _ c.loop-at.invariant.front put;
     }
 
