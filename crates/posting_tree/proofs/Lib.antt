@@ -18,3 +18,7 @@ pub mod DataWrites
 pub mod Segments
 -- the deltas of pointers that ascend
 pub mod Deltas
+-- a level of pages on consecutive blocks
+pub mod LevelSteps
+-- the leaves of a tree
+pub mod LeafSteps

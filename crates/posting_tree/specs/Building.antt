@@ -64,6 +64,14 @@ LeavesTake now next first first' keys keys' content content' last last' part =
     (old : List ℕ) (taken : List RowPtr) → LeavesPut old now first keys content last taken
     → LeavesPut old next first' keys' content' last' (taken ++ part)
 
+-- the leaves of a tree as a whole, put behind old bytes
+pub record LeafLevelPut (old new : List ℕ) (first : ℕ) (keys ptrs : List RowPtr) : Type 0 where
+  pub parts : List (List RowPtr)
+  pub put : LevelPut leaf_kind old new first keys parts
+  pub each : AllByRecursion IsPart parts
+  pub whole : ptrs ≡ flat_map (λ part. part) parts
+  pub few : 4 * length keys ≤ length ptrs + 4
+
 -- the levels of a tree up to one on consecutive blocks with these greatest pointers, put behind old bytes
 pub record TreePut (old new : List ℕ) (first : ℕ) (keys ptrs : List RowPtr) : Type 0 where
   pub leaves : List (Page (List RowPtr))
@@ -80,3 +88,7 @@ pub record TreePut (old new : List ℕ) (first : ℕ) (keys ptrs : List RowPtr) 
   pub next : first + length keys
       ≡ blocks_of old + length (nodes_of_level leaf_kind leaves ++ flat_map (nodes_of_level inner_kind) middle)
   pub bytes : new ≡ old ++ bytes_of (nodes_of_level leaf_kind leaves ++ flat_map (nodes_of_level inner_kind) middle)
+
+-- a list is another with one pointer more, which was asked for
+abbrev pub IsPushed : List RowPtr → List RowPtr → Option RowPtr → Type 0
+IsPushed old new asked = (key : RowPtr) × (asked ≡ Some key) × (new ≡ old ++ key ∷ [])

@@ -4,6 +4,8 @@
 mod data_page;
 mod decoding;
 mod encoding;
+mod leaves;
+mod level;
 mod tree;
 mod varbyte;
 

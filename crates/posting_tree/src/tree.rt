@@ -3,6 +3,8 @@ ghost use Rattle.pg_bytes.specs.PageLayout.{page_size};
 ghost use Rattle.posting_tree.specs.PostingTree.{AddsTree, Extends, IsReadAs};
 ghost use Rattle.posting_tree.specs.Segments.{AreAscending};
 
+use crate::leaves::put_leaves;
+use crate::level::put_level;
 use pg_bytes::{IndexImage, RowPtr};
 use std::alloc::{AllocError, Global};
 
@@ -18,5 +20,9 @@ pub fn build_tree(alloc: Global, image: &mut IndexImage, ptrs: &[RowPtr]) -> Res
     ensures reads { IfOk result (λ root. IsReadAs image.new root ptrs.now) }
     ensures err { OnErr result (Extends image.old image.new) }
 {
-    Err(AllocError)
+    let mut level = put_leaves(alloc, image, ptrs)?;
+    while level.keys.len() > 1 {
+        level = put_level(alloc, image, &level)?;
+    }
+    Ok(level.first)
 }
