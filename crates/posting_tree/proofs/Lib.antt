@@ -22,3 +22,5 @@ pub mod Deltas
 pub mod LevelSteps
 -- the leaves of a tree
 pub mod LeafSteps
+-- levels above the leaves
+pub mod InnerSteps

@@ -58,9 +58,10 @@ pub(crate) fn put_level(
     let mut left = below.keys.as_slice();
     while left.len() > FAN_OUT {
         let next = level.first + level.keys.len() as u32 + 1;
-        level.put_page(alloc, image, child, &left[..FAN_OUT], next)?;
+        let (full, behind) = left.split_at(FAN_OUT);
+        level.put_page(alloc, image, child, full, next)?;
         child += FAN_OUT as u32;
-        left = &left[FAN_OUT..];
+        left = behind;
     }
     level.put_page(alloc, image, child, left, NO_LINK)?;
     Ok(level)
