@@ -24,3 +24,5 @@ pub mod LevelSteps
 pub mod LeafSteps
 -- levels above the leaves
 pub mod InnerSteps
+-- a tree, level by level
+pub mod TreeSteps

@@ -64,7 +64,7 @@ pub(crate) fn put_some(out: &mut Vec<u8>, ptrs: &[RowPtr], room: usize) -> Resul
         out.new.items ≡ out.old.items ++ segment (take count ptrs.now)) }
     ensures within { IfOk result (λ count.
         length out.new.items ≤ length out.old.items + room) }
-    ensures blocks { IfOk result (λ count. HaveBlocks (take count ptrs.now)) }
+    ensures have_blocks { IfOk result (λ count. HaveBlocks (take count ptrs.now)) }
     ensures whole { IfOk result (λ count.
         7 * length ptrs.now + 8 ≤ room → count ≡ length ptrs.now) }
     ensures err { OnErr result (IsInFront out.old.items out.new.items) }
@@ -111,7 +111,7 @@ fn put_deltas(
         ≡ out.old.items ++ deltas_behind number (take count ptrs.now)) }
     ensures within { IfOk result (λ count.
         length out.new.items ≤ max end (length out.old.items)) }
-    ensures blocks { IfOk result (λ count. HaveBlocks (take count ptrs.now)) }
+    ensures have_blocks { IfOk result (λ count. HaveBlocks (take count ptrs.now)) }
     ensures whole { IfOk result (λ count.
         length out.old.items + 7 * length ptrs.now ≤ end → count ≡ length ptrs.now) }
     ensures err { OnErr result (IsInFront out.old.items out.new.items) }

@@ -42,7 +42,8 @@ pub(crate) fn put_leaves(
     ensures first { IfOk result (λ level. level.first * page_size ≡ length image.old) }
     ensures size { IfOk result (λ level. length image.new
         ≡ (level.first + length level.keys.items) * page_size) }
-    ensures blocks { IfOk result (λ level. HaveBlocks ptrs.now) }
+    ensures some { IfOk result (λ level. 0 < length level.keys.items) }
+    ensures have_blocks { IfOk result (λ level. HaveBlocks ptrs.now) }
     ensures extends { Extends image.old image.new }
 {
     let level = Level {

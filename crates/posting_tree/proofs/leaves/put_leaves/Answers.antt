@@ -31,7 +31,7 @@ loop-left-preserved c =
     let bytes = some-segment c.loop-left.left.now c.in_ok-count.count _ c.in_ok-count.ensures.some c.in_ok-count.ensures.count bytes_are in
     let more = c.in_ok-take.ensures.some in
     record {
-      taken = taken-more _ _ _ _ _ _ _ _ _ _ _ _ _ _ _ _ _ refl inv.taken c.in_ok-count.ensures.some c.in_ok-count.ensures.count bytes_are small c.in_ok-count.ensures.blocks c.in_ok-take.ensures.takes;
+      taken = taken-more _ _ _ _ _ _ _ _ _ _ _ _ _ _ _ _ _ refl inv.taken c.in_ok-count.ensures.some c.in_ok-count.ensures.count bytes_are small c.in_ok-count.ensures.have_blocks c.in_ok-take.ensures.takes;
       size = c.in_ok-take.ensures.size;
       first = ap (λ (n : ℕ). n * 8192) c.in_ok-take.ensures.first ∙ inv.first;
       content = c.in_ok-take.ensures.content;
