@@ -87,7 +87,7 @@ pub content-size : (child : ℕ) (keys : List RowPtr) (content : List ℕ) → c
     → length content ≡ 10 * length keys
 content-size child keys content is = ap length is ∙ length-items (links_from child keys) ∙ ap (λ (n : ℕ). 10 * n) (length-links child keys)
 
-fill-inner : (links : List (Downlink RowPtr)) → fill inner_kind links ≡ 10 * length links
+pub fill-inner : (links : List (Downlink RowPtr)) → fill inner_kind links ≡ 10 * length links
 fill-inner [] = refl
 fill-inner (link ∷ links) =
     let rest = fill-inner links in

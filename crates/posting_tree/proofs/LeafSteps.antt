@@ -98,7 +98,7 @@ leaf-page right parts content last is greatest_is =
 
 -- ---- leaves under way
 
-flat : List (List RowPtr) → List RowPtr
+abbrev flat : List (List RowPtr) → List RowPtr
 flat parts = flat_map (λ part. part) parts
 
 some-parts : (parts : List (List RowPtr)) (content : List ℕ) → content ≡ flat_map segment parts → 0 < length content → 0 < length parts
@@ -218,7 +218,7 @@ taken-none old first keys content last ptrs no_keys no_content a = record {
       (subst (λ (c : List ℕ). LeavesPut old old first [] c last []) (sym no_content) (leaves-none old first last));
 }
 
-ascending-back : (front back : List RowPtr) → AreAscending (front ++ back) → AreAscending back
+pub ascending-back : (front back : List RowPtr) → AreAscending (front ++ back) → AreAscending back
 ascending-back [] back a = a
 ascending-back (ptr ∷ front) back a = ascending-back front back a.2
 

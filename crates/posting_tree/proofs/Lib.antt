@@ -26,3 +26,7 @@ pub mod LeafSteps
 pub mod InnerSteps
 -- a tree, level by level
 pub mod TreeSteps
+-- the reading of trees
+pub mod TreeReading
+-- the reading of posting trees
+pub mod PostingReading

@@ -14,3 +14,5 @@ pub mod PostingTree
 pub mod Pass
 -- what the building of a posting tree keeps
 pub mod Building
+-- what holds of these, whatever the items are
+pub mod Laws

@@ -4,6 +4,7 @@
 mod data_page;
 mod decoding;
 mod encoding;
+mod laws;
 mod leaves;
 mod level;
 mod tree;

@@ -1,0 +1,1 @@
+//! What holds of segments and of trees of pages, whatever their items are.
