@@ -1,9 +1,9 @@
 -- Levels above the leaves, page by page.
-use Rattle.std.proofs.Common.{◌≡◌, ℕ, zero, suc, ◌+◌, ◌-◌, ◌*◌, ◌<◌, ◌≤◌, List, [], ◌∷◌, ◌++◌, length, map, take, drop, get_or, refl, sym, ap, subst, ◌∙◌, arith, length-append, length-drop}
+use Rattle.std.proofs.Common.{◌≡◌, ℕ, suc, ◌+◌, ◌-◌, ◌*◌, ◌<◌, ◌≤◌, List, [], ◌∷◌, ◌++◌, length, map, take, drop, get_or, refl, sym, ap, subst, ◌∙◌, arith, length-append}
 use Rattle.std.specs.Prelude.{Option, Some, None, if◌then◌else◌, nat_eq}
-use Rattle.std.specs.List.{AllByRecursion, flat_map, last_or, sum_by}
+use Rattle.std.specs.List.{flat_map, last_or}
 use Rattle.std.specs.Option.{unwrap_or}
-use Rattle.std.proofs.lemmas.List.{append_assoc, append-nil, length-take-le, length_push, map-append, take-append-drop, take_all, take_more}
+use Rattle.std.proofs.lemmas.List.{append_assoc, append-nil, length-take-le, length_push, take-append-drop, take_all, take_more}
 use Rattle.std.proofs.lemmas.List.Sums.{sum_by-cons}
 use Rattle.pg_bytes.proofs.Writes.{length-number_bytes}
 use Rattle.pg_bytes.specs.declared.row_ptr.RowPtr.{RowPtr}
@@ -12,8 +12,8 @@ use Rattle.posting_tree.proofs.LevelSteps.{Fills, level-whole, pages-more, pages
 use Rattle.posting_tree.proofs.Segments.{length-row_pointer}
 use Rattle.posting_tree.proofs.Lists.{flat-append}
 use Rattle.posting_tree.specs.Building.{IsPushed, LevelPut, PagesPut, links_from}
-use Rattle.posting_tree.specs.Levels.{Downlink, fill, greatest, least_fill, no_link}
-use Rattle.posting_tree.specs.PostingTree.{data_page, inner_flags, inner_image, inner_kind, posting_item, zero_pointer}
+use Rattle.posting_tree.specs.Levels.{Downlink, fill, greatest, no_link}
+use Rattle.posting_tree.specs.PostingTree.{data_page, inner_flags, inner_kind, posting_item, zero_pointer}
 
 -- ---- items that lead to consecutive blocks
 

@@ -1,7 +1,7 @@
 -- The leaves of a tree, segment by segment.
-use Rattle.std.proofs.Common.{◌≡◌, ℕ, zero, suc, ◌+◌, ◌-◌, ◌*◌, ◌%◌, ◌^◌, ◌<◌, ◌≤◌, List, [], ◌∷◌, ◌++◌, length, map, take, drop, get_or, refl, sym, ap, subst, ◌∙◌, arith, length-append, length-drop}
+use Rattle.std.proofs.Common.{◌≡◌, ℕ, ◌+◌, ◌-◌, ◌*◌, ◌%◌, ◌^◌, ◌<◌, ◌≤◌, List, [], ◌∷◌, ◌++◌, length, map, take, drop, get_or, refl, sym, ap, subst, ◌∙◌, arith, length-append, length-drop}
 use Rattle.std.specs.Prelude.{Option, Some, None, if◌then◌else◌, nat_eq}
-use Rattle.std.specs.List.{AllByRecursion, flat_map, last_or, sum_by}
+use Rattle.std.specs.List.{AllByRecursion, flat_map, last_or}
 use Rattle.std.specs.Option.{unwrap_or}
 use Rattle.std.proofs.lemmas.List.{append_assoc, append-nil, length-take-le, length_push, map-append, take-append-drop, take_all, take_more}
 use Rattle.std.proofs.lemmas.List.Sums.{sum_by-cons}
@@ -14,9 +14,9 @@ use Rattle.posting_tree.proofs.LevelSteps.{Fills, level-whole, pages-more, pages
 use Rattle.posting_tree.proofs.Lists.{all-append, all-push, flat-append}
 use Rattle.posting_tree.proofs.Segments.{length-row_pointer}
 use Rattle.posting_tree.proofs.Varbytes.{length-varbyte}
-use Rattle.posting_tree.specs.Building.{LeafLevelPut, LeavesPut, LeavesTake, PagesPut}
-use Rattle.posting_tree.specs.Levels.{fill, greatest, least_fill, no_link}
-use Rattle.posting_tree.specs.PostingTree.{data_page, greatest_pointer, leaf_flags, leaf_image, leaf_kind, zero_pointer}
+use Rattle.posting_tree.specs.Building.{LeafLevelPut, LeavesPut, LeavesTake}
+use Rattle.posting_tree.specs.Levels.{fill, greatest, no_link}
+use Rattle.posting_tree.specs.PostingTree.{data_page, greatest_pointer, leaf_flags, leaf_kind, zero_pointer}
 use Rattle.posting_tree.specs.Segments.{AreAscending, HaveBlocks, IsPart, deltas_behind, number_of, segment, segment_from, varbyte}
 
 -- ---- sizes
@@ -29,7 +29,7 @@ fill-content (part ∷ parts) =
     ∙ ap (λ (n : ℕ). length (segment part) + n) (fill-content parts)
     ∙ sym (length-append (segment part) (flat_map segment parts))
 
-length-deltas : (number : ℕ) (others : List RowPtr) → length (deltas_behind number others) ≤ 7 * length others
+pub length-deltas : (number : ℕ) (others : List RowPtr) → length (deltas_behind number others) ≤ 7 * length others
 length-deltas number [] = omega arith
 length-deltas number (ptr ∷ others) =
     let rest = length-deltas (number_of ptr) others in
@@ -37,7 +37,7 @@ length-deltas number (ptr ∷ others) =
     let e = length-append (varbyte (number_of ptr - number)) (deltas_behind (number_of ptr) others) in
     omega arith
 
-length-segment : (first : RowPtr) (others : List RowPtr)
+pub length-segment : (first : RowPtr) (others : List RowPtr)
     → length (segment_from first others) ≡ 8 + length (deltas_behind (number_of first) others) + length (deltas_behind (number_of first) others) % 2
 unfolding segment_from
 length-segment first others =
@@ -160,7 +160,7 @@ leaves-page old now next first keys content last taken right l full room right_i
     let keys_size = length_push keys last in
     let few = l.few in
     let flat_size = ap length (flat-append (λ (q : List RowPtr). q) l.parts l.open_parts)
-        ∙ length-append (flat_map (λ (q : List RowPtr). q) l.parts) (flat_map (λ (q : List RowPtr). q) l.open_parts) in
+    ∙ length-append (flat_map (λ (q : List RowPtr). q) l.parts) (flat_map (λ (q : List RowPtr). q) l.open_parts) in
     record {
       parts = l.parts ++ l.open_parts;
       open_parts = [];
@@ -187,7 +187,7 @@ leaves-whole old now next first keys content last taken l some room put =
     let keys_size = length_push keys last in
     let few = l.few in
     let flat_size = ap length (flat-append (λ (q : List RowPtr). q) l.parts l.open_parts)
-        ∙ length-append (flat_map (λ (q : List RowPtr). q) l.parts) (flat_map (λ (q : List RowPtr). q) l.open_parts) in
+    ∙ length-append (flat_map (λ (q : List RowPtr). q) l.parts) (flat_map (λ (q : List RowPtr). q) l.open_parts) in
     let whole_size = ap length l.whole in
     record {
       parts = l.parts ++ l.open_parts;
@@ -273,5 +273,5 @@ few-keys old now first keys content last ptrs left t =
     let split = ap length t.split ∙ length-append t.taken left in
     let whole = ap length l.whole in
     let flat_size = ap length (flat-append (λ (q : List RowPtr). q) l.parts l.open_parts)
-        ∙ length-append (flat_map (λ (q : List RowPtr). q) l.parts) (flat_map (λ (q : List RowPtr). q) l.open_parts) in
+    ∙ length-append (flat_map (λ (q : List RowPtr). q) l.parts) (flat_map (λ (q : List RowPtr). q) l.open_parts) in
     omega arith

@@ -26,7 +26,9 @@ pub mod LeafSteps
 pub mod InnerSteps
 -- a tree, level by level
 pub mod TreeSteps
--- the reading of trees
+-- the reading of trees: cited by the crates above
 pub mod TreeReading
 -- the reading of posting trees
 pub mod PostingReading
+-- bytes are of one list
+pub mod OneList

@@ -1,6 +1,6 @@
 -- Pages of a posting tree, as they are seen, and the reading of a tree that was put.
-use Rattle.std.proofs.Common.{◌≡◌, ℕ, zero, suc, ◌+◌, ◌-◌, ◌*◌, ◌/◌, ◌%◌, ◌^◌, ◌<◌, ◌≤◌, inl, inr, ◌⊎◌, Bool, true, false, List, [], ◌∷◌, ◌++◌, length, map, take, drop, refl, sym, ap, subst, ◌∙◌, arith, length-append}
-use Rattle.std.specs.Prelude.{Option, Some, None, if◌then◌else◌, nat_eq, slice_range}
+use Rattle.std.proofs.Common.{◌≡◌, ℕ, ◌+◌, ◌-◌, ◌*◌, ◌/◌, ◌%◌, ◌^◌, ◌<◌, ◌≤◌, inl, inr, ◌⊎◌, false, List, [], ◌∷◌, ◌++◌, length, map, take, drop, refl, sym, ap, subst, ◌∙◌, arith, length-append}
+use Rattle.std.specs.Prelude.{Option, nat_eq, slice_range}
 use Rattle.std.specs.List.{AllByRecursion, AllZip, flat_map, range_with_len}
 use Rattle.std.proofs.lemmas.Bool.Decides.{nat_tests}
 use Rattle.std.proofs.lemmas.List.{append_assoc, append-nil, drop_at, take_at}
@@ -11,7 +11,7 @@ use Rattle.pg_bytes.specs.PageLayout.{lower_of, page_header, page_size}
 use Rattle.pg_bytes.specs.Places.{zeros}
 use Rattle.pg_bytes.specs.Pointers.{row_pointer_bytes}
 use Rattle.pg_bytes.specs.declared.row_ptr.RowPtr.{RowPtr}
-use Rattle.posting_tree.proofs.DataWrites.{length-data_page, length-special_space}
+use Rattle.posting_tree.proofs.DataWrites.{length-data_page}
 use Rattle.posting_tree.proofs.InnerSteps.{fill-inner, length-items}
 use Rattle.posting_tree.proofs.LeafSteps.{ascending-back, fill-content}
 use Rattle.posting_tree.proofs.Lists.{all-append, all-back, all-front, flat-append}
@@ -19,11 +19,11 @@ use Rattle.posting_tree.proofs.Segments.{length-row_pointer}
 use Rattle.posting_tree.proofs.TreeReading.{trees-are-read}
 use Rattle.posting_tree.proofs.TreeSteps.{length-nodes}
 use Rattle.posting_tree.specs.Building.{bytes_of}
-use Rattle.posting_tree.specs.Laws.{IsSeenAbove, IsSeenIn}
-use Rattle.posting_tree.specs.Levels.{AreAbove, AreLevel, Downlink, IsEmptyRoot, IsPage, Kind, Node, Page, Tree, fill, first_block, items_of, no_link, nodes_linked, nodes_of, nodes_of_level, to_say}
-use Rattle.posting_tree.specs.PostingTree.{AddsTree, IsReadAs, data_page, data_sight, inner_flags, inner_image, inner_kind, leaf_flags, leaf_image, leaf_kind, posting_item}
-use Rattle.posting_tree.specs.Reading.{Sight, StandIn, block_at, blocks_of, contents_below}
-use Rattle.posting_tree.specs.Reading.Sight.{SeenInner, SeenLeaf, SeenOther}
+use Rattle.posting_tree.specs.Laws.{IsSeenAbove}
+use Rattle.posting_tree.specs.Levels.{AreAbove, AreLevel, Downlink, IsEmptyRoot, IsPage, Kind, Node, Page, Tree, first_block, items_of, no_link, nodes_linked, nodes_of, nodes_of_level, to_say}
+use Rattle.posting_tree.specs.PostingTree.{AddsTree, IsReadAs, data_page, data_sight, inner_flags, inner_image, inner_kind, leaf_flags, leaf_kind, posting_item}
+use Rattle.posting_tree.specs.Reading.{StandIn, block_at, blocks_of}
+use Rattle.posting_tree.specs.Reading.Sight.{SeenInner, SeenLeaf}
 use Rattle.posting_tree.specs.Segments.{AreAscending, AreSegmentsOf, HaveBlocks, IsPart, segment}
 use Rattle.posting_tree.specs.Special.{flags_of, maxoff_of, right_of, special_space}
 
@@ -220,10 +220,11 @@ stand-behind file front (node ∷ nodes) first is size blocks sized =
     let here : take page_size (drop (node.block * page_size) file) ≡ node.bytes =
     ap (λ (f : List ℕ). take page_size (drop (node.block * page_size) f)) is
     ∙ ap (take page_size) (drop_at front (node.bytes ++ bytes_of nodes) (node.block * page_size) (size ∙ ap (λ (n : ℕ). n * 8192) (sym at)))
-    ∙ take_at node.bytes (bytes_of nodes) page_size sized.0 in
-    (here,
-    stand-behind file (front ++ node.bytes) nodes (first + 1) (is ∙ sym (append_assoc front node.bytes (bytes_of nodes)))
-    (let e = sized.0 in length-append front node.bytes ∙ omega arith) rest sized.1)
+    ∙ take_at node.bytes (bytes_of nodes) page_size sized.0 in (
+      here,
+      stand-behind file (front ++ node.bytes) nodes (first + 1) (is ∙ sym (append_assoc front node.bytes (bytes_of nodes)))
+          (let e = sized.0 in length-append front node.bytes ∙ omega arith) rest sized.1,
+    )
 
 -- their blocks are those of the file
 inside-range : (nodes : List Node) (first limit : ℕ) → map (λ node. node.block) nodes ≡ range_with_len first (length nodes) → first + length nodes ≤ limit
@@ -280,17 +281,18 @@ zip-leaves [] a b parts = tt
 zip-leaves (page ∷ pages) a b parts =
     let cut : flat (page.items ++ items_of pages) ≡ flat page.items ++ flat (items_of pages) = flat-append (λ (part : List RowPtr). part) page.items (items_of pages) in
     let ascending : AreAscending (flat page.items ++ flat (items_of pages)) = subst AreAscending cut a in
-    let blocks : HaveBlocks (flat page.items ++ flat (items_of pages)) = subst HaveBlocks cut b in
-    (record {
-      ascending = ascending-front (flat page.items) (flat (items_of pages)) ascending;
-      blocks = all-front (λ ptr. ptr.block < 2 ^ 32) (flat page.items) (flat (items_of pages)) blocks;
-      parts = page.items;
-      each = all-front IsPart page.items (items_of pages) parts;
-      whole = refl;
-      bytes_are = refl;
-    },
-    zip-leaves pages (ascending-back (flat page.items) (flat (items_of pages)) ascending)
-    (all-back (λ ptr. ptr.block < 2 ^ 32) (flat page.items) (flat (items_of pages)) blocks) (all-back IsPart page.items (items_of pages) parts))
+    let blocks : HaveBlocks (flat page.items ++ flat (items_of pages)) = subst HaveBlocks cut b in (
+      record {
+        ascending = ascending-front (flat page.items) (flat (items_of pages)) ascending;
+        blocks = all-front (λ ptr. ptr.block < 2 ^ 32) (flat page.items) (flat (items_of pages)) blocks;
+        parts = page.items;
+        each = all-front IsPart page.items (items_of pages) parts;
+        whole = refl;
+        bytes_are = refl;
+      },
+      zip-leaves pages (ascending-back (flat page.items) (flat (items_of pages)) ascending)
+          (all-back (λ ptr. ptr.block < 2 ^ 32) (flat page.items) (flat (items_of pages)) blocks) (all-back IsPart page.items (items_of pages) parts),
+    )
 
 flat-leaves : (pages : List (Page (List RowPtr))) → flat (items_of pages) ≡ flat (map (λ page. flat page.items) pages)
 flat-leaves [] = refl
@@ -347,15 +349,15 @@ added-is-read old new root ptrs t pages small some ascending have =
     let some_leaves = some-pages leaf_kind tree.leaves level in
     let some_levels = levels-nodes (map (to_say leaf_kind) tree.leaves) tree.above above in
     let read = trees-are-read data_sight (λ (items : List (List RowPtr)). flat_map segment items) leaf_kind inner_kind new tree root t.is_tree.levels t.root_is
-        (record {
-          stand = stand-behind new old nodes (blocks_of old) t.bytes (sym pages) t.blocks sized;
-          inside = inside-range nodes (blocks_of old) (blocks_of new) t.blocks (omega arith);
-          linked = omega arith;
-          leaves = omega arith;
-          levels = omega arith;
-          seen_leaves = seen-leaves tree.leaves leaves;
-          seen_above = seen-levels tree.above inner;
-        }) in
+    (record {
+      stand = stand-behind new old nodes (blocks_of old) t.bytes (sym pages) t.blocks sized;
+      inside = inside-range nodes (blocks_of old) (blocks_of new) t.blocks (omega arith);
+      linked = omega arith;
+      leaves = omega arith;
+      levels = omega arith;
+      seen_leaves = seen-leaves tree.leaves leaves;
+      seen_above = seen-levels tree.above inner;
+    }) in
     record {
       contents = map (λ page. flat_map segment page.items) tree.leaves;
       found = read;

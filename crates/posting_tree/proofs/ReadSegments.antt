@@ -48,7 +48,7 @@ segment-front bytes ds left first others s is =
     ∙ simp append_assoc refl
 
 -- The list that bytes which aren't none are the segments of: a first pointer, the others of its segment, and the rest.
-record FirstSegment (number : ℕ) (bytes : List ℕ) (all : List RowPtr) : Type 0 where
+pub record FirstSegment (number : ℕ) (bytes : List ℕ) (all : List RowPtr) : Type 0 where
   pub first : RowPtr
   pub others : List RowPtr
   pub rest : List RowPtr
@@ -59,7 +59,7 @@ record FirstSegment (number : ℕ) (bytes : List ℕ) (all : List RowPtr) : Type
   pub deltas : AreDeltasOf (number_of first) (deltas_behind (number_of first) others) others
   pub next : AreSegmentsBehind (last_number (number_of first) others) left rest
 
-first-segment : (number : ℕ) (bytes : List ℕ) (all : List RowPtr) → 0 < length bytes → AreSegmentsBehind number bytes all → FirstSegment number bytes all
+pub first-segment : (number : ℕ) (bytes : List ℕ) (all : List RowPtr) → 0 < length bytes → AreSegmentsBehind number bytes all → FirstSegment number bytes all
 first-segment number bytes all some s = by_parts s.parts s.each s.whole s.bytes_are
   where
     by_parts : (parts : List (List RowPtr)) → AllByRecursion IsPart parts → all ≡ flat_map (λ part. part) parts → bytes ≡ flat_map segment parts
@@ -189,7 +189,7 @@ behind-zero (ptr ∷ others) a f =
     let from = a.0.from in
     (a.0, f.0, ((let e : 0 < number_of ptr = omega arith in e), first-behind ptr others a.0 a.1 a.2 f.1))
 
-before-number : (p q : RowPtr) → IsStorable p → IsStorable q → number_of p < number_of q → IsBefore p q
+pub before-number : (p q : RowPtr) → IsStorable p → IsStorable q → number_of p < number_of q → IsBefore p q
 before-number p q sp sq less = by_blocks (cases_order p.block q.block)
   where
     by_blocks : (p.block ≡ q.block) ⊎ ((p.block < q.block) ⊎ (q.block < p.block)) → IsBefore p q

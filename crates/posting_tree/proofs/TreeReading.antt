@@ -1,12 +1,12 @@
 -- A tree that stands in a file is read as what its leaves hold.
-use Rattle.std.proofs.Common.{◌≡◌, ℕ, zero, suc, ◌+◌, ◌-◌, ◌*◌, ◌/◌, ◌<◌, ◌≤◌, ltb, eqb, Bool, true, false, cond, List, [], ◌∷◌, ◌++◌, length, map, refl, sym, ap, subst, ◌∙◌, arith}
-use Rattle.std.specs.Prelude.{Option, Some, None, if◌then◌else◌, nat_eq, nat_lt}
+use Rattle.std.proofs.Common.{◌≡◌, ℕ, zero, suc, ◌+◌, ◌-◌, ◌<◌, ◌≤◌, Bool, true, false, List, [], ◌∷◌, ◌++◌, length, map, refl, sym, ap, ◌∙◌, arith}
+use Rattle.std.specs.Prelude.{Option, Some, if◌then◌else◌, nat_eq, nat_lt}
 use Rattle.std.specs.List.{AllByRecursion, flat_map}
 use Rattle.std.specs.Option.{option_and_then, option_map}
 use Rattle.std.proofs.lemmas.Bool.Decides.{nat_tests}
 use Rattle.posting_tree.proofs.Lists.{all-back, all-front}
 use Rattle.posting_tree.specs.Laws.{IsSeenAbove, IsSeenIn}
-use Rattle.posting_tree.specs.Levels.{AreAbove, AreLevel, Downlink, IsRootOf, IsTree, Kind, Node, Page, Tree, first_block, greatest, items_of, no_link, nodes_linked, nodes_of, nodes_of_level, said, to_say, top_of}
+use Rattle.posting_tree.specs.Levels.{AreAbove, AreLevel, Downlink, IsRootOf, IsTree, Kind, Node, Page, Tree, first_block, items_of, no_link, nodes_linked, nodes_of_level, said, to_say, top_of}
 use Rattle.posting_tree.specs.Reading.{Sight, StandIn, along, block_at, blocks_of, contents_below, leftmost, sight_at}
 use Rattle.posting_tree.specs.Reading.Sight.{SeenInner, SeenLeaf, SeenOther}
 
@@ -107,6 +107,7 @@ down sight inner file ((page ∷ pages) ∷ above) first rest blocks root most a
   where
     right : ℕ
     right = first_block no_link pages
+
     by_items : (items : List (Downlink _)) → page.items ≡ items → 0 < length page.items → map said (page.items ++ items_of pages) ≡ first ∷ rest
         → IsSeenAbove sight inner page → block_at page.block file ≡ inner.image right page.items → page.block < blocks_of file → right ≤ no_link
         → leftmost (sight_at sight file) (length above + suc most) root ≡ leftmost (sight_at sight file) (suc most) page.block
@@ -118,7 +119,7 @@ down sight inner file ((page ∷ pages) ∷ above) first rest blocks root most a
         let head : (link.child, Some link.key) ≡ first = cc in
         let child : link.child ≡ first.0 = ap (λ p. p.0) head in
         let here = seen-at sight file (record { block = page.block; bytes = inner.image right page.items }) (SeenInner link.child) within stands
-            (sees_page right link links low (omega arith) is) in
+        (sees_page right link links low (omega arith) is) in
         ap (λ (n : ℕ). leftmost (sight_at sight file) n root) count ∙ deeper
         ∙ leftmost-inner (sight_at sight file) most page.block link.child here
         ∙ ap (leftmost (sight_at sight file) most) child
@@ -148,8 +149,8 @@ read-levels sight content leaf inner file (page ∷ pages) above root a top seen
     let stand = all-front (λ node. block_at node.block file ≡ node.bytes) nodes others seen.stand in
     let within = all-front (λ node. node.block < blocks_of file) nodes others seen.inside in
     let here = seen-at sight file (record { block = page.block; bytes = leaf.image (first_block no_link pages) page.items })
-        (SeenLeaf (first_block no_link pages) (content page.items)) within.0 stand.0
-        (seen.seen_leaves.0 (first_block no_link pages) (first-linked leaf file pages seen.linked within.1)) in
+    (SeenLeaf (first_block no_link pages) (content page.items)) within.0 stand.0
+    (seen.seen_leaves.0 (first_block no_link pages) (first-linked leaf file pages seen.linked within.1)) in
     let first : leftmost (sight_at sight file) (blocks_of file) root ≡ Some page.block =
     ap (λ (n : ℕ). leftmost (sight_at sight file) n root) count
     ∙ down sight inner file above (to_say leaf page) (map (to_say leaf) pages) (map (λ p. p.block) pages) root (suc more) a top (let inside = within.0 in let small = seen.linked in omega arith) seen.linked
@@ -164,3 +165,9 @@ pub trees-are-read : {Leaf Key Content : Type 0} (sight : List ℕ → Sight Con
     → IsSeenIn sight content leaf inner file tree → contents_below sight file root ≡ Some (map (λ page. content page.items) tree.leaves)
 trees-are-read sight content leaf inner file tree root is root_is seen =
     read-levels sight content leaf inner file tree.leaves tree.above root is.above root_is seen
+
+-- pages stand in a file wherever their blocks are as in one in which they stand
+pub stand-still : (file other : List ℕ) (nodes : List Node) → AllByRecursion (λ node. block_at node.block other ≡ block_at node.block file) nodes
+    → StandIn file nodes → StandIn other nodes
+stand-still file other [] same stand = tt
+stand-still file other (node ∷ nodes) same stand = (same.0 ∙ stand.0, stand-still file other nodes same.1 stand.1)

@@ -1,12 +1,12 @@
 -- A tree, level by level.
-use Rattle.std.proofs.Common.{◌≡◌, ℕ, zero, suc, ◌+◌, ◌*◌, ◌/◌, ◌<◌, ◌≤◌, ◌⊎◌, inl, List, [], ◌∷◌, ◌++◌, length, map, refl, sym, ap, subst, ◌∙◌, arith, length-append}
+use Rattle.std.proofs.Common.{◌≡◌, ℕ, zero, suc, ◌+◌, ◌*◌, ◌<◌, inl, List, [], ◌∷◌, ◌++◌, length, map, refl, sym, ap, subst, ◌∙◌, arith, length-append}
 use Rattle.std.specs.Prelude.{Option, Some}
 use Rattle.std.specs.List.{AllByRecursion, flat_map, range_with_len}
 use Rattle.std.proofs.lemmas.List.{append_assoc, append-nil, length-map, map-append}
 use Rattle.pg_bytes.specs.declared.row_ptr.RowPtr.{RowPtr}
 use Rattle.posting_tree.proofs.Lists.{flat-append}
 use Rattle.posting_tree.specs.Building.{LeafLevelPut, LevelPut, TreePut, bytes_of, links_from, told_from}
-use Rattle.posting_tree.specs.Levels.{AreAbove, Downlink, IsTree, Kind, Node, Page, Tree, nodes_linked, nodes_of_level, said, to_say, top_of}
+use Rattle.posting_tree.specs.Levels.{AreAbove, Kind, Node, Page, nodes_linked, nodes_of_level, said, to_say, top_of}
 use Rattle.posting_tree.specs.PostingTree.{AddsTree, inner_kind, leaf_kind}
 use Rattle.posting_tree.specs.Reading.{blocks_of}
 
@@ -52,9 +52,10 @@ range-append a (suc m) n =
 level-blocks : {Item : Type 0} (kind : Kind Item RowPtr) (pages : List (Page Item)) (first : ℕ) (keys : List RowPtr) → map (to_say kind) pages ≡ told_from first keys
     → (map (λ node. node.block) (nodes_of_level kind pages) ≡ range_with_len first (length keys)) × (length (nodes_of_level kind pages) ≡ length keys)
 level-blocks kind pages first keys told =
-    let blocks = blocks-told kind pages first keys told in
-    (blocks-nodes kind 0xFFFFFFFF pages ∙ blocks,
-    length-nodes kind 0xFFFFFFFF pages ∙ sym (length-map pages (to_say kind)) ∙ ap length told ∙ length-told first keys)
+    let blocks = blocks-told kind pages first keys told in (
+      blocks-nodes kind 0xFFFFFFFF pages ∙ blocks,
+      length-nodes kind 0xFFFFFFFF pages ∙ sym (length-map pages (to_say kind)) ∙ ap length told ∙ length-told first keys,
+    )
 
 -- ---- a tree under way
 
@@ -105,10 +106,11 @@ tree-level old now next first first' keys keys' ptrs t put several at =
       whole = t.whole;
       above = λ more a.
           subst (AreAbove inner_kind (map (to_say leaf_kind) t.leaves)) (sym (append_assoc t.middle (put.pages ∷ []) more))
-          (t.above (put.pages ∷ more)
-          ((let e : 1 < length (told_from first keys) = omega arith in e),
-          ap (map said) put.items_are ∙ said-links first keys,
-          (put.level, subst (λ (below : List (ℕ × Option RowPtr)). AreAbove inner_kind below more) (sym put.told) a)));
+          (t.above (put.pages ∷ more) (
+            (let e : 1 < length (told_from first keys) = omega arith in e),
+            ap (map said) put.items_are ∙ said-links first keys,
+            (put.level, subst (λ (below : List (ℕ × Option RowPtr)). AreAbove inner_kind below more) (sym put.told) a),
+          ));
       top = λ more.
           ap (top_of (map (λ page. page.block) t.leaves)) (append_assoc t.middle (put.pages ∷ []) more)
           ∙ t.top (put.pages ∷ more)

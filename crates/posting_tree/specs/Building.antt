@@ -1,7 +1,6 @@
 -- What the building of a posting tree keeps: levels of pages on consecutive blocks, from the leaves up.
 use Rattle.std.specs.Prelude.{◌≡◌, ℕ, ◌+◌, ◌*◌, ◌<◌, ◌≤◌, Option, Some, List, [], ◌∷◌, ◌++◌, length, map}
 use Rattle.std.specs.List.{AllByRecursion, flat_map, range_with_len}
-use Rattle.pg_bytes.specs.PageLayout.{page_size}
 use Rattle.pg_bytes.specs.declared.row_ptr.RowPtr.{RowPtr}
 use Rattle.posting_tree.specs.Levels.{AreAbove, AreLevel, Downlink, IsPage, Kind, Node, Page, fill, greatest, items_of, least_fill, nodes_linked, nodes_of_level, to_say, top_of}
 use Rattle.posting_tree.specs.PostingTree.{inner_kind, leaf_kind}

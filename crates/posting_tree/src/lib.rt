@@ -12,4 +12,8 @@ mod varbyte;
 
 pub use decoding::decode;
 pub use encoding::{encode, put_segment};
+pub use laws::{
+    decoding_undoes_encoding, numbers_are_ordered_as_pointers, segments_are_of_one_list,
+    trees_are_read_as_one_list,
+};
 pub use tree::build_tree;

@@ -1,4 +1,4 @@
-use Rattle.std.proofs.Common.{◌≡◌, ◌++◌, length, sym, ap, ◌∙◌, List, ℕ, OnOk}
+use Rattle.std.proofs.Common.{length, sym, ap, ◌∙◌}
 use Rattle.posting_tree.proofs.DataWrites.{extends-result, placed-result, size-result}
 use Rattle.posting_tree.proofs.data_page.append.Goals as goal
 

@@ -1,10 +1,9 @@
-use Rattle.std.proofs.Common.{◌≡◌, ◌++◌, ◌∙◌, ◌+◌, ◌*◌, ◌≤◌, ◌<◌, [], ap, sym, refl, subst, List, ℕ, length, take, drop, arith}
+use Rattle.std.proofs.Common.{◌≡◌, ◌++◌, ◌∙◌, ◌*◌, ◌≤◌, ap, refl, List, ℕ, length, take, arith}
 use Rattle.std.proofs.lemmas.Result.{IfOk-weaker}
-use Rattle.pg_bytes.specs.declared.row_ptr.RowPtr.{RowPtr}
 use Rattle.posting_tree.proofs.DataWrites.{extends-itself, extends-more}
-use Rattle.posting_tree.proofs.Fronts.{is-empty, not-empty}
-use Rattle.posting_tree.proofs.LeafSteps.{few-keys, some-segment, taken-all, taken-more, taken-none}
-use Rattle.posting_tree.specs.Building.{LeafLevelPut, LeavesPut}
+use Rattle.posting_tree.proofs.Fronts.{is-empty}
+use Rattle.posting_tree.proofs.LeafSteps.{some-segment, taken-all, taken-more, taken-none}
+use Rattle.posting_tree.specs.Building.{LeafLevelPut}
 use Rattle.posting_tree.specs.Segments.{segment}
 use Rattle.posting_tree.proofs.leaves.put_leaves.Goals as goal
 

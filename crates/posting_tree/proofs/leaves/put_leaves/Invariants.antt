@@ -1,4 +1,4 @@
-use Rattle.std.proofs.Common.{◌≡◌, ◌++◌, ◌+◌, ◌*◌, ◌≤◌, ◌<◌, List, length, take, drop, ℕ}
+use Rattle.std.proofs.Common.{◌≡◌, ◌+◌, ◌*◌, ◌≤◌, ◌<◌, length}
 use Rattle.pg_bytes.specs.PageLayout.{page_size}
 use Rattle.posting_tree.proofs.LeafSteps.{LeavesTaken}
 use Rattle.posting_tree.specs.PostingTree.{Extends}

@@ -1,4 +1,4 @@
-use Rattle.std.proofs.Common.{◌≡◌, ◌∙◌, ◌++◌, ap, List, ℕ}
+use Rattle.std.proofs.Common.{◌∙◌, ◌++◌, ap, List, ℕ}
 use Rattle.posting_tree.proofs.InnerSteps.{items-more}
 use Rattle.posting_tree.proofs.level.put_items.Goals as goal
 

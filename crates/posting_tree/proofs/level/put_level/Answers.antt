@@ -1,4 +1,4 @@
-use Rattle.std.proofs.Common.{◌≡◌, ◌∙◌, ◌+◌, ◌*◌, ◌≤◌, ◌<◌, ap, ℕ, refl, length, drop, arith, length-drop}
+use Rattle.std.proofs.Common.{◌≡◌, ◌∙◌, ◌+◌, ap, ℕ, refl, length, arith, length-drop}
 use Rattle.std.proofs.lemmas.List.{length_push}
 use Rattle.posting_tree.proofs.DataWrites.{extends-more}
 use Rattle.posting_tree.proofs.InnerSteps.{inner-more, inner-whole}

@@ -1,4 +1,4 @@
-use Rattle.std.proofs.Common.{◌≡◌, ◌+◌, ◌*◌, ◌≤◌, ◌<◌, length}
+use Rattle.std.proofs.Common.{◌≡◌, ◌+◌, ◌*◌, ◌<◌, length}
 use Rattle.pg_bytes.specs.PageLayout.{page_size}
 use Rattle.posting_tree.proofs.InnerSteps.{InnerTaken}
 use Rattle.posting_tree.specs.PostingTree.{Extends}

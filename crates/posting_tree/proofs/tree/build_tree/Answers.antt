@@ -1,4 +1,4 @@
-use Rattle.std.proofs.Common.{◌≡◌, ◌∙◌, ◌+◌, ◌*◌, ◌/◌, ◌≤◌, ◌<◌, ap, sym, ℕ, refl, length, arith}
+use Rattle.std.proofs.Common.{◌≡◌, ◌*◌, ◌/◌, ◌<◌, ap, length, arith}
 use Rattle.posting_tree.proofs.DataWrites.{extends-more}
 use Rattle.posting_tree.proofs.TreeSteps.{tree-leaves, tree-level, tree-whole}
 use Rattle.posting_tree.proofs.PostingReading.{added-is-read}

@@ -1,4 +1,4 @@
-use Rattle.std.proofs.Common.{arith, refl, sym, ◌∙◌, ap, ◌≡◌, ◌+◌, length}
+use Rattle.std.proofs.Common.{refl, ◌∙◌, ap, ◌+◌, length}
 use Rattle.posting_tree.proofs.DataWrites.{written-data_page}
 use Rattle.posting_tree.specs.PostingTree.{data_page}
 use Rattle.posting_tree.proofs.data_page.DataPage.page.Goals as goal

@@ -1,4 +1,4 @@
-use Rattle.std.proofs.Common.{arith, ◌+◌, ◌≤◌, ◌<◌, ◌≡◌, length}
+use Rattle.std.proofs.Common.{arith}
 use Rattle.posting_tree.proofs.LeafSteps.{leaves-page}
 use Rattle.posting_tree.proofs.leaves.Leaves.make_room.Goals as goal
 

@@ -1,5 +1,4 @@
-use Rattle.std.proofs.Common.{◌≡◌, ◌++◌, ◌∙◌, ap, sym, subst, List, ℕ, append-nil}
-use Rattle.pg_bytes.specs.declared.row_ptr.RowPtr.{RowPtr}
+use Rattle.std.proofs.Common.{◌++◌, ◌∙◌, ap, subst, List, ℕ, append-nil}
 use Rattle.posting_tree.proofs.LeafSteps.{leaves-segment}
 use Rattle.posting_tree.specs.Building.{LeavesPut}
 use Rattle.posting_tree.proofs.leaves.Leaves.take.Goals as goal

@@ -1,6 +1,5 @@
-use Rattle.std.proofs.Common.{◌≡◌, ◌∙◌, ◌++◌, ◌+◌, ◌-◌, ◌*◌, ◌≤◌, [], ap, List, ℕ, refl, length, get_or, arith}
+use Rattle.std.proofs.Common.{◌≡◌, ◌∙◌, ◌++◌, ◌-◌, [], ap, List, ℕ, length, get_or, arith}
 use Rattle.std.specs.List.{flat_map}
-use Rattle.pg_bytes.specs.declared.row_ptr.RowPtr.{RowPtr}
 use Rattle.posting_tree.proofs.InnerSteps.{content-size, inner-page, last-link}
 use Rattle.posting_tree.specs.Building.{links_from}
 use Rattle.posting_tree.specs.PostingTree.{posting_item}
@@ -21,7 +20,8 @@ returns-clause-ok c =
     ∙ ap (λ (p : List ℕ). c.args.image.now ++ p) (inner-page c.args.right c.args.child c.args.keys.now c.deref.result.now (record { block = 0; offset = 0 }) c.requires.some content)
 
 pub returns-clause-keys : goal.returns-clause-keys
-returns-clause-keys c =
-    (get_or c.args.keys.now (length c.args.keys.now - 1) (record { block = 0; offset = 0 }),
-    last-link c.args.child c.args.keys.now (record { block = 0; offset = 0 }) c.requires.some,
-    c.in_ok-push.ensures.items)
+returns-clause-keys c = (
+  get_or c.args.keys.now (length c.args.keys.now - 1) (record { block = 0; offset = 0 }),
+  last-link c.args.child c.args.keys.now (record { block = 0; offset = 0 }) c.requires.some,
+  c.in_ok-push.ensures.items,
+)
