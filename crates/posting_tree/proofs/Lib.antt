@@ -28,7 +28,7 @@ pub mod InnerSteps
 pub mod TreeSteps
 -- the reading of trees: cited by the crates above
 pub mod TreeReading
--- the reading of posting trees
+-- the reading of posting trees: cited by the crates above
 pub mod PostingReading
 -- bytes are of one list
 pub mod OneList

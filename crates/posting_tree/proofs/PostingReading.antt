@@ -20,8 +20,8 @@ use Rattle.posting_tree.proofs.TreeReading.{trees-are-read}
 use Rattle.posting_tree.proofs.TreeSteps.{length-nodes}
 use Rattle.posting_tree.specs.Building.{bytes_of}
 use Rattle.posting_tree.specs.Laws.{IsSeenAbove}
-use Rattle.posting_tree.specs.Levels.{AreAbove, AreLevel, Downlink, IsEmptyRoot, IsPage, Kind, Node, Page, Tree, first_block, items_of, no_link, nodes_linked, nodes_of, nodes_of_level, to_say}
-use Rattle.posting_tree.specs.PostingTree.{AddsTree, IsReadAs, data_page, data_sight, inner_flags, inner_image, inner_kind, leaf_flags, leaf_kind, posting_item}
+use Rattle.posting_tree.specs.Levels.{AreAbove, AreLevel, Downlink, IsEmptyRoot, IsPage, IsRootOf, Kind, Node, Page, Tree, first_block, items_of, no_link, nodes_linked, nodes_of, nodes_of_level, to_say}
+use Rattle.posting_tree.specs.PostingTree.{AddsTree, IsPostingTree, IsReadAs, data_page, data_sight, inner_flags, inner_image, inner_kind, leaf_flags, leaf_kind, posting_item}
 use Rattle.posting_tree.specs.Reading.{StandIn, block_at, blocks_of}
 use Rattle.posting_tree.specs.Reading.Sight.{SeenInner, SeenLeaf}
 use Rattle.posting_tree.specs.Segments.{AreAscending, AreSegmentsOf, HaveBlocks, IsPart, segment}
@@ -326,43 +326,89 @@ not-empty tree ptrs (inr empty) whole some =
     let e = ap length (whole ∙ none) in
     absurd (omega arith)
 
--- ---- a tree that was put is read as its pointers
+-- ---- a posting tree that stands in a file is read as its pointers
 
-pub added-is-read : (old new : List ℕ) (root : ℕ) (ptrs : List RowPtr) → AddsTree old new root ptrs → blocks_of old * 8192 ≡ length old
-    → length new < 2 ^ 44 → 0 < length ptrs → AreAscending ptrs → HaveBlocks ptrs → IsReadAs new root ptrs
-added-is-read old new root ptrs t pages small some ascending have =
-    let tree : Tree (List RowPtr) RowPtr = t.tree in
-    let above : AreAbove inner_kind (map (to_say leaf_kind) tree.leaves) tree.above = t.is_tree.levels.above in
-    let level : AreLevel leaf_kind tree.leaves = not-empty tree ptrs t.is_tree.levels.leaves t.is_tree.whole some in
-    let leaves : AllByRecursion (IsPage leaf_kind) tree.leaves = all-pages leaf_kind tree.leaves level in
-    let inner : AllByRecursion (AllByRecursion (IsPage inner_kind)) tree.above = all-levels inner_kind (map (to_say leaf_kind) tree.leaves) tree.above above in
-    let nodes : List Node = nodes_of leaf_kind inner_kind tree in
-    let leaf_nodes : List Node = nodes_of_level leaf_kind tree.leaves in
-    let others : List Node = flat_map (nodes_of_level inner_kind) tree.above in
-    let sized : AllByRecursion (λ node. length node.bytes ≡ 8192) nodes =
-    all-append (λ node. length node.bytes ≡ 8192) leaf_nodes others (sized-leaves no_link tree.leaves leaves) (sized-above tree.above inner) in
-    let bytes = length-bytes nodes sized in
-    let total = ap length t.bytes ∙ length-append old (bytes_of nodes) in
-    let count : blocks_of new ≡ blocks_of old + length nodes = omega arith in
-    let parts = length-append leaf_nodes others in
+leaf-level : (tree : Tree (List RowPtr) RowPtr) (ptrs : List RowPtr) → IsPostingTree tree ptrs → 0 < length ptrs → AreLevel leaf_kind tree.leaves
+leaf-level tree ptrs is some = not-empty tree ptrs is.levels.leaves is.whole some
+
+inner-levels : (tree : Tree (List RowPtr) RowPtr) (ptrs : List RowPtr) → IsPostingTree tree ptrs → AllByRecursion (AllByRecursion (IsPage inner_kind)) tree.above
+inner-levels tree ptrs is = all-levels inner_kind (map (to_say leaf_kind) tree.leaves) tree.above is.levels.above
+
+-- each of its pages has 8,192 bytes
+pub nodes-sized : (tree : Tree (List RowPtr) RowPtr) (ptrs : List RowPtr) → IsPostingTree tree ptrs → 0 < length ptrs
+    → AllByRecursion (λ node. length node.bytes ≡ 8192) (nodes_of leaf_kind inner_kind tree)
+nodes-sized tree ptrs is some =
+    all-append (λ node. length node.bytes ≡ 8192) (nodes_of_level leaf_kind tree.leaves) (flat_map (nodes_of_level inner_kind) tree.above)
+    (sized-leaves no_link tree.leaves (all-pages leaf_kind tree.leaves (leaf-level tree ptrs is some)))
+    (sized-above tree.above (inner-levels tree ptrs is))
+
+pub read-as : (tree : Tree (List RowPtr) RowPtr) (ptrs : List RowPtr) (root : ℕ) (file : List ℕ) → IsPostingTree tree ptrs → IsRootOf tree root
+    → StandIn file (nodes_of leaf_kind inner_kind tree)
+    → AllByRecursion (λ node. node.block < blocks_of file) (nodes_of leaf_kind inner_kind tree)
+    → length (nodes_of leaf_kind inner_kind tree) ≤ blocks_of file → blocks_of file ≤ no_link → 0 < length ptrs → AreAscending ptrs → HaveBlocks ptrs
+    → IsReadAs file root ptrs
+read-as tree ptrs root file is root_is stand inside few linked some ascending have =
+    let level : AreLevel leaf_kind tree.leaves = leaf-level tree ptrs is some in
+    let above : AreAbove inner_kind (map (to_say leaf_kind) tree.leaves) tree.above = is.levels.above in
+    let parts = length-append (nodes_of_level leaf_kind tree.leaves) (flat_map (nodes_of_level inner_kind) tree.above) in
     let leaf_count = length-nodes leaf_kind no_link tree.leaves in
     let some_leaves = some-pages leaf_kind tree.leaves level in
     let some_levels = levels-nodes (map (to_say leaf_kind) tree.leaves) tree.above above in
-    let read = trees-are-read data_sight (λ (items : List (List RowPtr)). flat_map segment items) leaf_kind inner_kind new tree root t.is_tree.levels t.root_is
+    let read = trees-are-read data_sight (λ (items : List (List RowPtr)). flat_map segment items) leaf_kind inner_kind file tree root is.levels root_is
     (record {
-      stand = stand-behind new old nodes (blocks_of old) t.bytes (sym pages) t.blocks sized;
-      inside = inside-range nodes (blocks_of old) (blocks_of new) t.blocks (omega arith);
-      linked = omega arith;
+      stand = stand;
+      inside = inside;
+      linked = linked;
       leaves = omega arith;
       levels = omega arith;
-      seen_leaves = seen-leaves tree.leaves leaves;
-      seen_above = seen-levels tree.above inner;
+      seen_leaves = seen-leaves tree.leaves (all-pages leaf_kind tree.leaves level);
+      seen_above = seen-levels tree.above (inner-levels tree ptrs is);
     }) in
     record {
       contents = map (λ page. flat_map segment page.items) tree.leaves;
       found = read;
       lists = map (λ page. flat page.items) tree.leaves;
-      each = zip-leaves tree.leaves (subst AreAscending t.is_tree.whole ascending) (subst HaveBlocks t.is_tree.whole have) t.is_tree.parts;
-      whole = t.is_tree.whole ∙ flat-leaves tree.leaves;
+      each = zip-leaves tree.leaves (subst AreAscending is.whole ascending) (subst HaveBlocks is.whole have) is.parts;
+      whole = is.whole ∙ flat-leaves tree.leaves;
       ascending = ascending;
     }
+
+-- ---- a tree that was put
+
+-- how many blocks there are more
+pub added-count : (old new : List ℕ) (root : ℕ) (ptrs : List RowPtr) (t : AddsTree old new root ptrs) → blocks_of old * 8192 ≡ length old → 0 < length ptrs
+    → blocks_of new ≡ blocks_of old + length (nodes_of leaf_kind inner_kind t.tree)
+added-count old new root ptrs t pages some =
+    let nodes : List Node = nodes_of leaf_kind inner_kind t.tree in
+    let bytes = length-bytes nodes (nodes-sized t.tree ptrs t.is_tree some) in
+    let total = ap length t.bytes ∙ length-append old (bytes_of nodes) in
+    omega arith
+
+-- its pages stand in the new file, on the blocks behind the old ones
+pub added-stands : (old new : List ℕ) (root : ℕ) (ptrs : List RowPtr) (t : AddsTree old new root ptrs) → blocks_of old * 8192 ≡ length old → 0 < length ptrs
+    → StandIn new (nodes_of leaf_kind inner_kind t.tree)
+added-stands old new root ptrs t pages some =
+    stand-behind new old (nodes_of leaf_kind inner_kind t.tree) (blocks_of old) t.bytes (sym pages) t.blocks (nodes-sized t.tree ptrs t.is_tree some)
+
+pub added-inside : (old new : List ℕ) (root : ℕ) (ptrs : List RowPtr) (t : AddsTree old new root ptrs) → blocks_of old * 8192 ≡ length old → 0 < length ptrs
+    → AllByRecursion (λ node. node.block < blocks_of new) (nodes_of leaf_kind inner_kind t.tree)
+added-inside old new root ptrs t pages some =
+    let count = added-count old new root ptrs t pages some in
+    inside-range (nodes_of leaf_kind inner_kind t.tree) (blocks_of old) (blocks_of new) t.blocks (omega arith)
+
+pub added-is-read : (old new : List ℕ) (root : ℕ) (ptrs : List RowPtr) → AddsTree old new root ptrs → blocks_of old * 8192 ≡ length old
+    → length new < 2 ^ 44 → 0 < length ptrs → AreAscending ptrs → HaveBlocks ptrs → IsReadAs new root ptrs
+added-is-read old new root ptrs t pages small some ascending have =
+    let count = added-count old new root ptrs t pages some in
+    read-as t.tree ptrs root new t.is_tree t.root_is (added-stands old new root ptrs t pages some) (added-inside old new root ptrs t pages some)
+    (omega arith) (omega arith) some ascending have
+
+-- the pointers that are read have blocks in four bytes
+pub read-blocks : (file : List ℕ) (root : ℕ) (ptrs : List RowPtr) → IsReadAs file root ptrs → HaveBlocks ptrs
+read-blocks file root ptrs r = subst HaveBlocks (sym r.whole) (by_lists r.lists r.contents r.each)
+  where
+    by_lists : (lists : List (List RowPtr)) (contents : List (List ℕ)) → AllZip AreSegmentsOf lists contents → HaveBlocks (flat lists)
+    by_lists [] contents each = tt
+    by_lists (list ∷ lists) [] each = absurd each
+    by_lists (list ∷ lists) (content ∷ contents) each =
+        all-append (λ ptr. ptr.block < 2 ^ 32) list (flat lists) each.0.blocks (by_lists lists contents each.1)
