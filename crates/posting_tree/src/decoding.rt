@@ -3,7 +3,8 @@ ghost use Rattle.pg_bytes.specs.declared.row_ptr.RowPtr.{RowPtr};
 ghost use Rattle.posting_tree.specs.Pass.{AreDeltasOf, AreSegmentsBehind, HasZeros, IsPointerBehind, ReadsDeltas, ReadsSegment, StartsWithSegment};
 ghost use Rattle.posting_tree.specs.Segments.{AreSegmentsOf, IsStorable};
 
-use crate::encoding::{COUNT, HEAD, OFFSETS, number_of};
+use crate::encoding::{COUNT, HEAD};
+use crate::pointers::{OFFSETS, is_storable, number_of};
 use crate::varbyte::read_varbyte;
 use pg_bytes::{Items, RowPtr, RowPtrs, u16_at};
 use std::alloc::{AllocError, Global};
@@ -118,13 +119,6 @@ fn is_padded(bytes: &[u8], place: usize, count: usize) -> bool
     } else {
         place < bytes.len() && bytes[place] == 0
     }
-}
-
-// Whether a list may have the pointer.
-fn is_storable(ptr: &RowPtr) -> bool
-    ensures { IsTrue result ↔ IsStorable ptr.now }
-{
-    1 <= ptr.offset && u64::from(ptr.offset) < OFFSETS
 }
 
 // The pointer that is so far behind one with this number. None comes exactly where there is none.

@@ -5,6 +5,7 @@ ghost use Rattle.pg_bytes.specs.Pointers.{row_pointer_bytes};
 ghost use Rattle.posting_tree.specs.Pass.{AscendBehind, IsInFront};
 ghost use Rattle.posting_tree.specs.Segments.{AreAscending, HaveBlocks, deltas_behind, number_of, segment};
 
+use crate::pointers::number_of;
 use crate::varbyte::{MOST_BYTES, put_varbyte};
 use byteorder::{ByteOrder, LittleEndian};
 use pg_bytes::{Bytes, Items, RowPtr};
@@ -15,10 +16,6 @@ use std::alloc::{AllocError, Global};
 pub(crate) const HEAD: usize = 8;
 
 pub(crate) const COUNT: usize = 6;
-
-// How many offset numbers a block has in the number of a pointer (`MaxHeapTuplesPerPageBits` of
-// `ginpostinglist.c`).
-pub(crate) const OFFSETS: u64 = 1 << 11;
 
 /// The one segment of these pointers (`ginCompressPostingList` of `ginpostinglist.c`). An error
 /// means that no memory was left.
@@ -86,15 +83,6 @@ fn put_head(out: &mut Vec<u8>, first: RowPtr) -> Result<(), AllocError>
     let mut head = [0u8; HEAD];
     first.put(&mut head, 0);
     out.extend_from_slice(&head)
-}
-
-// A pointer as one number.
-pub(crate) fn number_of(ptr: &RowPtr) -> u64
-    ensures number { result ≡ number_of ptr.now }
-    ensures bound { result < 2 ^ 44 }
-    ensures block { ptr.now.block < 2 ^ 32 }
-{
-    u64::from(ptr.block) * OFFSETS + u64::from(ptr.offset)
 }
 
 // Puts the deltas of pointers behind a number, of as many as surely end before an end, and answers

@@ -7,6 +7,9 @@ mod encoding;
 mod laws;
 mod leaves;
 mod level;
+mod pointers;
+#[cfg(test)]
+mod tests;
 mod tree;
 mod varbyte;
 
@@ -16,4 +19,5 @@ pub use laws::{
     decoding_undoes_encoding, numbers_are_ordered_as_pointers, segments_are_of_one_list,
     trees_are_read_as_one_list,
 };
+pub use pointers::are_ascending;
 pub use tree::build_tree;
