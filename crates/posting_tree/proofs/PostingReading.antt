@@ -342,12 +342,12 @@ nodes-sized tree ptrs is some =
     (sized-leaves no_link tree.leaves (all-pages leaf_kind tree.leaves (leaf-level tree ptrs is some)))
     (sized-above tree.above (inner-levels tree ptrs is))
 
-pub read-as : (tree : Tree (List RowPtr) RowPtr) (ptrs : List RowPtr) (root : ℕ) (file : List ℕ) → IsPostingTree tree ptrs → IsRootOf tree root
+pub standing-is-read : (file : List ℕ) (tree : Tree (List RowPtr) RowPtr) (root : ℕ) (ptrs : List RowPtr) → IsPostingTree tree ptrs → IsRootOf tree root
     → StandIn file (nodes_of leaf_kind inner_kind tree)
     → AllByRecursion (λ node. node.block < blocks_of file) (nodes_of leaf_kind inner_kind tree)
     → length (nodes_of leaf_kind inner_kind tree) ≤ blocks_of file → blocks_of file ≤ no_link → 0 < length ptrs → AreAscending ptrs → HaveBlocks ptrs
     → IsReadAs file root ptrs
-read-as tree ptrs root file is root_is stand inside few linked some ascending have =
+standing-is-read file tree root ptrs is root_is stand inside few linked some ascending have =
     let level : AreLevel leaf_kind tree.leaves = leaf-level tree ptrs is some in
     let above : AreAbove inner_kind (map (to_say leaf_kind) tree.leaves) tree.above = is.levels.above in
     let parts = length-append (nodes_of_level leaf_kind tree.leaves) (flat_map (nodes_of_level inner_kind) tree.above) in
@@ -400,7 +400,7 @@ pub added-is-read : (old new : List ℕ) (root : ℕ) (ptrs : List RowPtr) → A
     → length new < 2 ^ 44 → 0 < length ptrs → AreAscending ptrs → HaveBlocks ptrs → IsReadAs new root ptrs
 added-is-read old new root ptrs t pages small some ascending have =
     let count = added-count old new root ptrs t pages some in
-    read-as t.tree ptrs root new t.is_tree t.root_is (added-stands old new root ptrs t pages some) (added-inside old new root ptrs t pages some)
+    standing-is-read new t.tree root ptrs t.is_tree t.root_is (added-stands old new root ptrs t pages some) (added-inside old new root ptrs t pages some)
     (omega arith) (omega arith) some ascending have
 
 -- the pointers that are read have blocks in four bytes

@@ -28,8 +28,8 @@ pub record IsFilled {Item : Type 0} (kind : Kind Item RowPtr) (page : Page Item)
 
 -- The pages of a level that have a right neighbour, put behind old bytes, with these greatest pointers and items: the
 -- right link of the last is the block that comes next.
-pub record PagesPut {Item : Type 0} (kind : Kind Item RowPtr) (old new : List ℕ) (first : ℕ) (keys : List RowPtr) (items : List Item)
-    : Type 0 where
+pub record PagesPut {Item : Type 0} (kind : Kind Item RowPtr) (old new : List ℕ) (first : ℕ) (keys : List RowPtr)
+    (items : List Item) : Type 0 where
   pub pages : List (Page Item)
   pub filled : AllByRecursion (IsFilled kind) pages
   pub told : map (to_say kind) pages ≡ told_from first keys
@@ -37,8 +37,8 @@ pub record PagesPut {Item : Type 0} (kind : Kind Item RowPtr) (old new : List �
   pub bytes : new ≡ old ++ bytes_of (nodes_linked kind (first + length keys) pages)
 
 -- a level as a whole, put behind old bytes
-pub record LevelPut {Item : Type 0} (kind : Kind Item RowPtr) (old new : List ℕ) (first : ℕ) (keys : List RowPtr) (items : List Item)
-    : Type 0 where
+pub record LevelPut {Item : Type 0} (kind : Kind Item RowPtr) (old new : List ℕ) (first : ℕ) (keys : List RowPtr)
+    (items : List Item) : Type 0 where
   pub pages : List (Page Item)
   pub level : AreLevel kind pages
   pub told : map (to_say kind) pages ≡ told_from first keys
@@ -46,8 +46,8 @@ pub record LevelPut {Item : Type 0} (kind : Kind Item RowPtr) (old new : List �
   pub bytes : new ≡ old ++ bytes_of (nodes_of_level kind pages)
 
 -- Leaves under way: those that are put, and the content of the next one, with its greatest pointer.
-pub record LeavesPut (old new : List ℕ) (first : ℕ) (keys : List RowPtr) (content : List ℕ) (last : RowPtr) (taken : List RowPtr)
-    : Type 0 where
+pub record LeavesPut (old new : List ℕ) (first : ℕ) (keys : List RowPtr) (content : List ℕ) (last : RowPtr)
+    (taken : List RowPtr) : Type 0 where
   pub parts : List (List RowPtr)
   pub open_parts : List (List RowPtr)
   pub put : PagesPut leaf_kind old new first keys parts
@@ -58,7 +58,8 @@ pub record LeavesPut (old new : List ℕ) (first : ℕ) (keys : List RowPtr) (co
   pub few : 4 * length keys ≤ length (flat_map (λ part. part) parts)
 
 -- a step from leaves under way to the same with these pointers more
-abbrev pub LeavesTake : List ℕ → List ℕ → ℕ → ℕ → List RowPtr → List RowPtr → List ℕ → List ℕ → RowPtr → RowPtr → List RowPtr → Type 0
+abbrev pub LeavesTake : List ℕ → List ℕ → ℕ → ℕ → List RowPtr → List RowPtr → List ℕ → List ℕ → RowPtr → RowPtr → List RowPtr
+    → Type 0
 LeavesTake now next first first' keys keys' content content' last last' part =
     (old : List ℕ) (taken : List RowPtr) → LeavesPut old now first keys content last taken
     → LeavesPut old next first' keys' content' last' (taken ++ part)

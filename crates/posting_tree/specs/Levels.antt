@@ -72,7 +72,8 @@ to_say kind page = (page.block, greatest kind page.items)
 
 -- The levels above one of whose pages this is to say: there are some exactly where it has more than one page, and the
 -- items of the first of them name its pages, each once and in order.
-abbrev pub AreAbove : {Key : Type 0} → Kind (Downlink Key) Key → List (ℕ × Option Key) → List (List (Page (Downlink Key))) → Type 0
+abbrev pub AreAbove : {Key : Type 0} → Kind (Downlink Key) Key → List (ℕ × Option Key) → List (List (Page (Downlink Key)))
+    → Type 0
 AreAbove inner below [] = length below ≡ 1
 AreAbove inner below (pages ∷ above) =
     (1 < length below) × (map said (items_of pages) ≡ below)
