@@ -5,6 +5,8 @@ pub mod Standing
 -- how order bytes and their heads compare
 pub mod OrderBytes
 pub mod Heads
+-- the head of few bytes from two numbers
+pub mod ShortHeads
 -- how long a record's bytes are at most
 pub mod Lengths
 -- how a record is read step by step

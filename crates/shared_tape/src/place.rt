@@ -26,19 +26,37 @@ impl Place {
     }
 }
 
-// How many bytes the head has.
+// How many bytes the head has, and the half that a register holds.
 const HEAD: usize = 16;
+
+const HALF: usize = 8;
 
 /// The first bytes as one number, highest first, with zeros where there are fewer.
 #[tactic(auto, unfolding(crate::specs::Places::head_of))]
 pub(crate) fn head_of(bytes: &[u8]) -> u128
     ensures { result ≡ head_of bytes.now }
 {
-    if bytes.len() < HEAD {
-        BigEndian::read_u128(&padded(bytes))
-    } else {
+    if HEAD <= bytes.len() {
         BigEndian::read_u128(bytes)
+    } else if HALF < bytes.len() {
+        overlapped(bytes)
+    } else {
+        BigEndian::read_u128(&padded(bytes))
     }
+}
+
+// The head of more than eight bytes, from the first eight and the last eight, of which those that
+// are among the first are shifted out: so it is made in registers.
+#[tactic(auto, unfolding(crate::specs::Places::head_of))]
+fn overlapped(bytes: &[u8]) -> u128
+    requires more { 8 < length bytes.now }
+    requires few { length bytes.now < 16 }
+    ensures { result ≡ head_of bytes.now }
+{
+    let count = bytes.len();
+    let first = BigEndian::read_u64(bytes);
+    let last = BigEndian::read_u64(&bytes[count - HALF..]) << (8 * (HEAD - count));
+    u128::from(first) * (1 << 64) + u128::from(last)
 }
 
 // The bytes with zeros behind them.
