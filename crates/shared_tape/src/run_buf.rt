@@ -107,19 +107,33 @@ impl RunBuf {
         ensures err { OnErr result (self.new ≡ self.old) }
         ensures handed_back { IfErr result (λ back. back ≡ row) }
     {
+        match self.put_copy(&row) {
+            Ok(()) => Ok(()),
+            Err(_) => Err(row),
+        }
+    }
+
+    /// Puts a copy of a record behind those that are there, so that its owner can fill it anew for
+    /// the next one. An error means that no memory was left, and then nothing changed.
+    pub fn put_copy(&mut self, row: &Record) -> Result<(), AllocError>
+        requires { IsStorable self.old.order row.now }
+        ensures ok { OnOk result
+            (self.new ≡ record self.old { records = self.old.records ++ row.now ∷ [] }) }
+        ensures err { OnErr result (self.new ≡ self.old) }
+    {
         let start = self.bytes.len();
         let added = add(
             &self.order,
             &mut self.bytes,
             &mut self.places,
             &mut self.ready,
-            &row,
+            row,
         );
         match added {
             Ok(()) => Ok(()),
-            Err(_) => {
+            Err(failed) => {
                 self.bytes.truncate(start);
-                Err(row)
+                Err(failed)
             }
         }
     }
