@@ -13,11 +13,20 @@
 //! The invariant: every run but the open one is sorted, in the spool's order, and none is longer
 //! than it may be. The open one is not full.
 //!
+//! A gather is a spool of entries, for a GIN index: a row is put as one record for each entry of its
+//! array (`ginHeapTupleBulkInsert` of `gininsert.c`), which has the entry's category and key and the
+//! row's pointer. One record is filled for one entry after the other, and the open run takes a copy
+//! of its bytes, so that an entry takes no list of its own. A row whose entries found no memory has
+//! part of them in the spool, so the gather is spent from then on.
+//!
 //! # What it promises
 //!
-//! - The tape has the records that were put, as often as they were put, in sorted runs of the
+//! - A spool's tape has the records that were put, as often as they were put, in sorted runs of the
 //!   spool's order and of at most as many rows as it was told.
 //! - A row that finds no memory is handed back, and the spool is as it was.
+//! - A gather's tape has one record for each entry of each row that was put, in sorted runs of the
+//!   order of entries and of at most as many records as it was told.
+//! - A gather that found no memory answers so ever after.
 //!
 //! # What is not
 //!
@@ -25,8 +34,13 @@
 //! - That there is enough memory is tested and not proved.
 #![tactic(auto)]
 
+mod entry_spool;
+mod gather;
+mod laws;
 mod spool;
 #[cfg(test)]
 mod tests;
 
+pub use gather::Gather;
+pub use laws::column_entries_are_storable;
 pub use spool::Spool;

@@ -60,24 +60,33 @@ impl Spool {
         ensures err { OnErr result (self.new ≡ self.old) }
         ensures handed_back { IfErr result (λ back. back ≡ row) }
     {
+        match self.put_copy(&row) {
+            Ok(()) => Ok(()),
+            Err(_) => Err(row),
+        }
+    }
+
+    /// Keeps a copy of a record. On want of memory the spool is unchanged.
+    pub(crate) fn put_copy(&mut self, row: &Record) -> Result<(), AllocError>
+        requires { IsStorable self.old.order row.now }
+        ensures ok { OnOk result (TakesRecord self.old row.now self.new) }
+        ensures err { OnErr result (self.new ≡ self.old) }
+    {
         if self.current.len() + 1 < self.run_rows as usize {
-            self.current.put(row)
+            self.current.put_copy(row)
         } else {
             self.put_last(row)
         }
     }
 
     // Keeps the record that makes a run full, and puts the run away.
-    fn put_last(&mut self, row: Record) -> Result<(), Record>
-        requires { IsStorable self.old.order row }
-        ensures ok { OnOk result (TakesRecord self.old row self.new) }
+    fn put_last(&mut self, row: &Record) -> Result<(), AllocError>
+        requires { IsStorable self.old.order row.now }
+        ensures ok { OnOk result (TakesRecord self.old row.now self.new) }
         ensures err { OnErr result (self.new ≡ self.old) }
-        ensures handed_back { IfErr result (λ back. back ≡ row) }
     {
-        if self.full.reserve(1).is_err() {
-            return Err(row);
-        }
-        self.current.put(row)?;
+        self.full.reserve(1)?;
+        self.current.put_copy(row)?;
         self.full.push_back_reserved(self.current.take_run());
         Ok(())
     }

@@ -1,3 +1,7 @@
+mod gathered_texts;
+mod gathers;
+mod large_gathers;
+
 ghost use Rattle.std.specs.Prelude.{◌≡◌, ◌≤◌, IfOk, List, length};
 ghost use Rattle.shared_tape.specs.Stored.{IsStorable};
 ghost use Rattle.opclass.specs.declared.spec.SortPart.{SortPart as Part};
