@@ -1,0 +1,33 @@
+-- lists, place by place
+pub mod Places
+-- the pages of a level that is filled
+pub mod Fillings
+-- a page by its parts
+pub mod PageParts
+-- pages of a level as they come into a file
+pub mod Placings
+pub mod Placements
+-- blocks of a file that grows
+pub mod Blocks
+-- how levels rise
+pub mod Rising
+-- the tuples of entries
+pub mod EntryTuples
+-- the writes of the meta page
+pub mod MetaWrites
+-- the pages of posting trees
+pub mod ListTrees
+-- how entries are stored
+pub mod Storings
+-- how they become a file
+pub mod Finishing
+-- how records are taken
+pub mod Takings
+-- what is read of a page
+pub mod PageReading
+-- a file is read as its postings
+pub mod FileReading
+-- records tell postings
+pub mod Telling
+-- and become the file
+pub mod Packing

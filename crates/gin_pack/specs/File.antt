@@ -1,0 +1,117 @@
+-- A GIN file and the map that it is (ginbuild of gininsert.c): the meta page, the entry tree with its root at block 1, and
+-- the posting trees of entries with long lists.
+use Rattle.std.specs.Prelude.{◌≡◌, ◌⊎◌, ℕ, ◌+◌, ◌*◌, ◌<◌, ◌≤◌, Option, Some, None, List, length, map, All, Any}
+use Rattle.std.specs.List.{AllByRecursion, AllZip, flat_map, sum_by}
+use Rattle.std.specs.List.Sorted.{IsStrictlySortedBy}
+use Rattle.pg_bytes.specs.PageLayout.{page_size}
+use Rattle.pg_bytes.specs.declared.row_ptr.RowPtr.{RowPtr}
+use Rattle.opclass.specs.declared.types.ColType.{ColType}
+use Rattle.gin_entry.specs.declared.entry.Entry.{Entry}
+use Rattle.gin_entry.specs.EntryMap.{IsMapOf, IsPostingList, Posting}
+use Rattle.gin_entry.specs.EntryOrder.{columns_of, entry_cmp}
+use Rattle.shared_tape.specs.declared.stored.Record.{Record}
+use Rattle.posting_tree.specs.Levels.{IsRootOf, IsTree, Node, Tree, items_of, no_link, nodes_of}
+use Rattle.posting_tree.specs.PostingTree.{IsPostingTree, inner_kind as list_inner_kind, leaf_kind as list_leaf_kind, IsReadAs}
+use Rattle.posting_tree.specs.Reading.{StandIn, block_at, blocks_of, contents_below}
+use Rattle.gin_pack.specs.EntryTree.{Item, entry_sight, inner_kind, leaf_kind}
+use Rattle.gin_pack.specs.EntryTuple.{list_size, list_tuple, most_size, tree_tuple}
+use Rattle.gin_pack.specs.Meta.{meta_page}
+
+-- ---- the map of sorted entries
+
+-- an entry leads to a pointer where a record says so
+abbrev pub Leads : List Record → Entry → RowPtr → Type 0
+Leads records entry pointer = Any (λ row. (row.keys ≡ columns_of entry) × (row.ptr ≡ pointer)) records
+
+-- ---- what is read of a file
+
+-- A tuple tells an entry and its pointers: it has the list in it, or names the root of the tree in which it stands.
+abbrev pub Tells : ColType → List ℕ → List ℕ → Posting → Type 0
+Tells kind file tuple posting =
+    (tuple ≡ list_tuple kind posting.entry posting.pointers)
+    ⊎ ((root : ℕ) × (tuple ≡ tree_tuple kind posting.entry root) × IsReadAs file root posting.pointers)
+
+-- A file is read as these postings: its leaves tell them, from the leftmost along the right links, entries ascend, and
+-- so does each list.
+pub record IsReadAsPostings (kind : ColType) (file : List ℕ) (postings : List Posting) : Type 0 where
+  pub leaves : List (List (List ℕ))
+  pub found : contents_below entry_sight file 1 ≡ Some leaves
+  pub told : AllZip (Tells kind file) (flat_map (λ tuples. tuples) leaves) postings
+  pub ascending : IsStrictlySortedBy entry_cmp (map (λ posting. posting.entry) postings)
+  pub lists : All (λ posting. IsPostingList posting.pointers) postings
+
+-- ---- how a file is built
+
+-- a posting tree, and its root
+pub record ListTree : Type 0 where
+  pub tree : Tree (List RowPtr) RowPtr
+  pub root : ℕ
+
+-- an entry with its pointers, and the tree in which they stand, unless they stand in the entry's tuple
+pub record Stored : Type 0 where
+  pub posting : Posting
+  pub apart : Option ListTree
+
+-- its tuple on a leaf
+abbrev pub tuple_of : ColType → Stored → List ℕ
+tuple_of kind stored = elim stored.apart [
+  | None ↦ list_tuple kind stored.posting.entry stored.posting.pointers
+  | Some apart ↦ tree_tuple kind stored.posting.entry apart.root
+]
+
+abbrev pub item_of : ColType → Stored → Item
+item_of kind stored = record { entry = stored.posting.entry; tuple = tuple_of kind stored }
+
+-- how many pages a posting tree has
+abbrev pub pages_apart : Stored → ℕ
+pages_apart stored = elim stored.apart [
+  | None ↦ 0
+  | Some apart ↦ length (nodes_of list_leaf_kind list_inner_kind apart.tree)
+]
+
+-- a page has a block of a file
+abbrev pub IsBlockOf : List ℕ → Node → Type 0
+IsBlockOf file node = node.block < blocks_of file
+
+-- A posting tree stands in a file, and there had to be one: with the list the entry's tuple would be too large.
+pub record StandsApart (kind : ColType) (file : List ℕ) (posting : Posting) (apart : ListTree) : Type 0 where
+  pub large : most_size < list_size kind posting.entry posting.pointers
+  pub tree : IsPostingTree apart.tree posting.pointers
+  pub root : IsRootOf apart.tree apart.root
+  pub stands : StandIn file (nodes_of list_leaf_kind list_inner_kind apart.tree)
+  pub inside : AllByRecursion (IsBlockOf file) (nodes_of list_leaf_kind list_inner_kind apart.tree)
+
+-- an entry's list stands in its tuple where that isn't too large, and else in a posting tree
+abbrev pub IsStored : ColType → List ℕ → Stored → Type 0
+IsStored kind file stored = elim stored.apart [
+  | None ↦ list_size kind stored.posting.entry stored.posting.pointers ≤ most_size
+  | Some apart ↦ StandsApart kind file stored.posting apart
+]
+
+-- A file has these postings, and nothing but what it needs for them: the entry tree has their tuples, its root is block
+-- 1, and the meta page counts the blocks, the pages of the one tree and of the others, and the entries.
+pub record HasPostings (kind : ColType) (file : List ℕ) (postings : List Posting) : Type 0 where
+  pub stored : List Stored
+  pub postings_are : map (λ each. each.posting) stored ≡ postings
+  pub lists : AllByRecursion (IsStored kind file) stored
+  pub tree : Tree Item Entry
+  pub levels : IsTree leaf_kind (inner_kind kind) tree
+  pub items : items_of tree.leaves ≡ map (item_of kind) stored
+  pub root : IsRootOf tree 1
+  pub stands : StandIn file (nodes_of leaf_kind (inner_kind kind) tree)
+  pub inside : AllByRecursion (IsBlockOf file) (nodes_of leaf_kind (inner_kind kind) tree)
+  pub meta : block_at 0 file ≡ meta_page (record {
+    blocks = 1 + (length (nodes_of leaf_kind (inner_kind kind) tree) + sum_by pages_apart stored);
+    entry_pages = length (nodes_of leaf_kind (inner_kind kind) tree);
+    data_pages = sum_by pages_apart stored;
+    entries = length stored;
+  })
+  pub blocks : length file ≡ (1 + (length (nodes_of leaf_kind (inner_kind kind) tree) + sum_by pages_apart stored)) * page_size
+  pub numbered : blocks_of file ≤ no_link
+
+-- The file of sorted entries: it is read as their map, and built as a GIN index is.
+pub record IsGinFile (kind : ColType) (records : List Record) (file : List ℕ) : Type 0 where
+  pub postings : List Posting
+  pub map_is : IsMapOf (Leads records) postings
+  pub read : IsReadAsPostings kind file postings
+  pub built : HasPostings kind file postings

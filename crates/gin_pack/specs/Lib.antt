@@ -1,0 +1,14 @@
+-- Reading order: from a tuple to the file.
+
+-- the tuples of entries
+pub mod EntryTuple
+-- the entry tree, and its reading
+pub mod EntryTree
+-- the meta page
+pub mod Meta
+-- the records that an index is packed from
+pub mod Records
+-- the whole file
+pub mod File
+-- what the packing keeps on its way
+pub mod Pass

@@ -1,0 +1,68 @@
+//! The file of a GIN index, built from the sorted entries of its rows.
+//!
+//! A GIN index leads from entries to rows: from each element of an array, and from what stands for
+//! a null, to the pointers of the rows that have it (`gin_entry`). Its file has three kinds of
+//! pages. Block 0 is the meta page, which counts the others. The entry tree, whose root is block 1,
+//! has a tuple for each entry on its leaves. A tuple has the posting list of its entry in it, as
+//! one segment, or names the root of a posting tree in which the list stands (`posting_tree`).
+//!
+//! # How sorted entries become a tree
+//!
+//! `ginbuild` of `gininsert.c` collects entries in memory and inserts them into the tree, page split
+//! by page split. Entries that come sorted need neither. The records of an entry come together, so
+//! its pointers are gathered until the next entry comes, and then the entry is stored: a list that
+//! fits goes into the tuple, another becomes a posting tree at once, behind the blocks that the
+//! image has. The tuple goes to the open leaf, or to the next one where it has no room there. An
+//! entry's tuple is at most 2,712 bytes, so that three of them have room on a page: a leaf is left
+//! only when it is filled by more than 5,400 bytes.
+//!
+//! The idea that keeps this simple: a page has no number before its level is whole. While entries
+//! come, the leaves wait beside the image, each with the tuple by which the level above will name
+//! it, that of its greatest entry. When all have come, the leaves go behind the posting trees, one
+//! block after the other, so that the right link of each is the next number, and the level above is
+//! filled with what leads to them in the same way. The first level that is one page alone is the
+//! root and goes to block 1, which was left for it, as block 0 was for the meta page.
+//!
+//! The invariant: what was placed stays. The image grows at its end, and of its old blocks only
+//! those two are written again. So a posting tree that stands in it stands there to the end.
+//!
+//! # How it is stated
+//!
+//! The reading of a file (`specs/EntryTree`, `IsReadAsPostings` of `specs/File`) is said of bytes
+//! and knows nothing of how they came: down first children from block 1 to a leaf, along right
+//! links, and each leaf tuple tells an entry and its pointers, from its segment or from its posting
+//! tree. How a file is built (`HasPostings`) is said by the one definition of trees in levels that
+//! posting trees have too (`posting_tree`): each page but the rightmost of its level has at least
+//! 4,000 bytes of tuples, an item above names a page below by its greatest entry, and a level has
+//! one above it exactly where it has more than one page. `IsGinFile` is both, over the map of the
+//! records.
+//!
+//! # What it promises
+//!
+//! Unless memory runs out, `pack` gives a file that is read as exactly the entries of the records
+//! and their pointers, entries and lists ascending strictly, and that is built as above: the list
+//! of an entry stands in a tree exactly where its tuple with the list as one segment would have
+//! more than 2,712 bytes, and the meta page counts the file's blocks, the pages of the entry tree
+//! and of posting trees, which are all the others, and the entries.
+//!
+//! # What is not
+//!
+//! - Nothing here sorts records or looks whether they are sorted: the merge below gives them so.
+//! - Where pages are cut isn't said beyond the bound, nor at which blocks they stand, but for the
+//!   root. It isn't said that another reading finds no other map.
+//! - Besides want of memory, a packing ends as if memory had run out where a file would have more
+//!   than 2^30 blocks or 2^64 entries: no heap needs so many.
+#![tactic(auto)]
+
+mod entry_tuple;
+mod level;
+mod levels;
+mod meta;
+mod packer;
+mod special;
+mod store;
+
+pub use packer::pack;
+
+#[cfg(test)]
+mod tests;
