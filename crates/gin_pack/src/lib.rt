@@ -33,9 +33,9 @@
 //! links, and each leaf tuple tells an entry and its pointers, from its segment or from its posting
 //! tree. How a file is built (`HasPostings`) is said by the one definition of trees in levels that
 //! posting trees have too (`posting_tree`): each page but the rightmost of its level has at least
-//! 4,000 bytes of tuples, an item above names a page below by its greatest entry, and a level has
-//! one above it exactly where it has more than one page. `IsGinFile` is both, over the map of the
-//! records.
+//! 4,000 bytes of tuples and their line pointers, an item above names a page below by its greatest
+//! entry, and a level has one above it exactly where it has more than one page. `IsGinFile` is
+//! both, over the map of the records.
 //!
 //! # What it promises
 //!
