@@ -1,5 +1,6 @@
 -- how a record is read back
 pub mod ReadBack
+pub mod Texts
 -- which bytes stand at a place
 pub mod Standing
 -- how order bytes and their heads compare

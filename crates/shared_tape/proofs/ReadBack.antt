@@ -62,13 +62,13 @@ number_in-piece part z behind fits =
 
 -- ---- bytes with their end
 
-test-same : (a : ℕ) → (a == a) ≡ true
+pub test-same : (a : ℕ) → (a == a) ≡ true
 test-same a = grind (arith, nat_tests)
 
 test-is : (a b : ℕ) → (a == b) ≡ true → a ≡ b
 test-is a b e = grind (arith, nat_tests)
 
-test-other : (a b : ℕ) → a ≢ b → (a == b) ≡ false
+pub test-other : (a b : ℕ) → a ≢ b → (a == b) ≡ false
 test-other a b h = grind (arith, nat_tests)
 
 other_mark : (mark : ℕ) → (255 - mark == mark) ≡ false
@@ -81,13 +81,13 @@ marked-byte : (mark byte : ℕ) (inside : List ℕ) → (byte == mark) ≡ false
 marked-byte mark byte inside e = ap (λ (t : Bool). if t then mark ∷ (255 - mark) ∷ marked mark inside else byte ∷ marked mark inside) e
 
 -- what is read at a byte, once it is known whether it is the mark
-at_mark : (mark byte : ℕ) (bytes : List ℕ) → (byte == mark) ≡ true → up_to_end mark false (byte ∷ bytes) ≡ up_to_end mark true bytes
+pub at_mark : (mark byte : ℕ) (bytes : List ℕ) → (byte == mark) ≡ true → up_to_end mark false (byte ∷ bytes) ≡ up_to_end mark true bytes
 at_mark mark byte bytes e = ap (λ (t : Bool). if t then up_to_end mark true bytes else with_first byte (up_to_end mark false bytes)) e
 
-at_byte : (mark byte : ℕ) (bytes : List ℕ) → (byte == mark) ≡ false → up_to_end mark false (byte ∷ bytes) ≡ with_first byte (up_to_end mark false bytes)
+pub at_byte : (mark byte : ℕ) (bytes : List ℕ) → (byte == mark) ≡ false → up_to_end mark false (byte ∷ bytes) ≡ with_first byte (up_to_end mark false bytes)
 at_byte mark byte bytes e = ap (λ (t : Bool). if t then up_to_end mark true bytes else with_first byte (up_to_end mark false bytes)) e
 
-at_end : (mark : ℕ) (bytes : List ℕ) → up_to_end mark true (mark ∷ bytes) ≡ ([], bytes)
+pub at_end : (mark : ℕ) (bytes : List ℕ) → up_to_end mark true (mark ∷ bytes) ≡ ([], bytes)
 at_end mark bytes = ap (λ (t : Bool). if t then ([], bytes) else with_first mark (up_to_end mark false bytes)) (test-same mark)
 
 at_escape : (mark : ℕ) (bytes : List ℕ) → up_to_end mark true ((255 - mark) ∷ bytes) ≡ with_first mark (up_to_end mark false bytes)
@@ -136,7 +136,7 @@ raw_in-piece part xs behind are =
 
 -- ---- values
 
-value_in-piece : (part : SortPart) (value : KeyVal) (behind : List ℕ) → IsKeyValue value → value_in part (piece part value ++ behind) ≡ (value, behind)
+pub value_in-piece : (part : SortPart) (value : KeyVal) (behind : List ℕ) → IsKeyValue value → value_in part (piece part value ++ behind) ≡ (value, behind)
 value_in-piece part Nil behind is =
     elim part.nulls_first as (λ first. value_in part ((if first then 0 else 3) ∷ behind) ≡ (Nil, behind)) [ true ↦ refl | false ↦ refl ]
 value_in-piece part (Num z) behind is = number_in-piece part z behind is

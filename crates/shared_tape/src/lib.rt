@@ -25,6 +25,8 @@
 //! - A sorted run has the records that were put, as often as they were put, and none is below the
 //!   one before it. A buffer whose run was taken is empty, in the same order.
 //! - What is taken from a run is its first record, and what is taken from a tape its first run.
+//! - A record is read into one that its owner keeps (`Run::read_into`), whose lists and texts give
+//!   their memory to the new values.
 //! - A call that finds no memory leaves all as it was, and hands back what it was given. Sorting
 //!   takes no memory.
 //! - The laws: order bytes compare as the records do, and are equal only where keys and row
@@ -41,12 +43,14 @@ mod laid;
 mod laws;
 mod place;
 mod reader;
+mod refill;
 mod run;
 mod run_buf;
 mod stored;
 mod tape;
 #[cfg(test)]
 mod tests;
+mod text;
 
 pub use laws::{
     heads_may_decide, order_bytes_are_ordered, order_bytes_are_told_apart, records_are_ordered,

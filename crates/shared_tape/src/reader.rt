@@ -1,11 +1,11 @@
-ghost use Rattle.std.specs.Prelude.{◌≡◌, IfOk, length};
-ghost use Rattle.shared_tape.specs.Pass.{AreOrderBytes, ArePieces};
+ghost use Rattle.std.specs.Prelude.{◌≡◌, OnOk, length};
 ghost use Rattle.shared_tape.specs.Places.{HasRecordAt, HasTwoAt, stored_at};
-ghost use Rattle.shared_tape.specs.Reading.{all_values_in, counted_at, pointer_in, record_at, values_in};
+ghost use Rattle.shared_tape.specs.Reading.{counted_at, pointer_in, record_at};
 
-use crate::stored::{LENGTH, POINTER, Record, UNSAID};
+use crate::refill::{read_extra, read_keys};
+use crate::stored::{LENGTH, Record};
 use byteorder::{BigEndian, ByteOrder};
-use opclass::{KeyList, SortSpec, read_norm, read_piece};
+use opclass::SortSpec;
 use pg_bytes::{RowPtr, u32_at};
 use std::alloc::{AllocError, Global};
 
@@ -36,39 +36,25 @@ pub(crate) fn stored_at(bytes: &[u8], place: usize) -> &[u8]
     &bytes[place..end]
 }
 
-/// The record at a place.
+/// Fills a record anew with the one at a place, in the memory that it has. After an error its
+/// values may be any.
 #[tactic(auto, unfolding(crate::specs::Reading::record_at, crate::specs::Reading::record_of))]
 pub(crate) fn read_record(
     alloc: Global,
     bytes: &[u8],
     order: &SortSpec,
     place: usize,
-) -> Result<Record, AllocError>
+    row: &mut Record,
+) -> Result<(), AllocError>
     requires { HasRecordAt order.now bytes.now place }
-    ensures { IfOk result (λ row. row ≡ record_at order.now bytes.now place) }
+    ensures { OnOk result (row.new ≡ record_at order.now bytes.now place) }
 {
     let sorted = counted_at(bytes, place);
     let extra = counted_at(bytes, place + LENGTH + sorted.len());
-    let (keys, ptr) = read_sorted(alloc, order, sorted)?;
-    let extra = read_extra(alloc, extra)?;
-    Ok(Record { keys, extra, ptr })
-}
-
-// The keys and the row pointer of these order bytes.
-fn read_sorted(
-    alloc: Global,
-    order: &SortSpec,
-    sorted: &[u8],
-) -> Result<(KeyList, RowPtr), AllocError>
-    requires { AreOrderBytes order.now sorted.now }
-    ensures { IfOk result (λ read. let there = values_in order.now sorted.now in
-        (read.0 ≡ there.0) × (read.1 ≡ pointer_in there.1)) }
-{
-    let (norm, pointer) = sorted.split_at(sorted.len() - POINTER);
-    let Some(keys) = read_norm(alloc, order, norm)? else {
-        unreachable!()
-    };
-    Ok((keys, read_pointer(pointer)))
+    let pointer = read_keys(alloc, order.as_slice(), sorted, &mut row.keys)?;
+    read_extra(alloc, extra, &mut row.extra)?;
+    row.ptr = read_pointer(pointer);
+    Ok(())
 }
 
 fn read_pointer(bytes: &[u8]) -> RowPtr
@@ -79,21 +65,4 @@ fn read_pointer(bytes: &[u8]) -> RowPtr
         block: BigEndian::read_u32(bytes),
         offset: BigEndian::read_u16(&bytes[4..]),
     }
-}
-
-// The values whose pieces these are.
-fn read_extra(alloc: Global, bytes: &[u8]) -> Result<KeyList, AllocError>
-    requires { ArePieces bytes.now }
-    ensures { IfOk result (λ values. values ≡ all_values_in (length bytes.now) bytes.now) }
-{
-    let mut values = Vec::new(alloc);
-    let mut left = bytes;
-    while !left.is_empty() {
-        let Some((value, behind)) = read_piece(alloc, UNSAID, left)? else {
-            unreachable!()
-        };
-        values.push(value)?;
-        left = behind;
-    }
-    Ok(KeyList::from_vec(values))
 }

@@ -126,11 +126,23 @@ impl Run {
         requires { at < length self.now.records }
         ensures { IfOk result (λ row. slice_get self.now.records at ≡ Some row) }
     {
+        let mut row = Record::new(*self.laid.bytes.allocator());
+        self.read_into(at, &mut row)?;
+        Ok(row)
+    }
+
+    /// Fills a record anew with the one at a place, counted from 0, in the memory that it has. An
+    /// error means that no memory was left, and then its values may be any.
+    pub fn read_into(&self, at: usize, row: &mut Record) -> Result<(), AllocError>
+        requires { at < length self.now.records }
+        ensures { OnOk result (slice_get self.now.records at ≡ Some row.new) }
+    {
         read_record(
             *self.laid.bytes.allocator(),
             &self.laid.bytes,
             &self.order,
             self.laid.starts[self.taken + at],
+            row,
         )
     }
 

@@ -1,4 +1,4 @@
-ghost use Rattle.std.specs.Prelude.{◌≡◌, ◌++◌, ◌+◌, ◌<◌, ◌≤◌, ◌^◌, OnOk, OnErr, drop, length, take};
+ghost use Rattle.std.specs.Prelude.{◌≡◌, [], ◌++◌, ◌+◌, ◌<◌, ◌≤◌, ◌^◌, OnOk, OnErr, drop, length, take};
 ghost use Rattle.std.specs.List.{flat_map};
 ghost use Rattle.opclass.specs.Norm.{piece};
 ghost use Rattle.opclass.specs.Order.{unsaid};
@@ -8,7 +8,7 @@ ghost use Rattle.shared_tape.specs.Stored.{IsStorable, counted, extra_bytes, ord
 use byteorder::{ByteOrder, LittleEndian};
 use opclass::{KeyList, SortPart, SortSpec, put_norm, put_piece};
 use pg_bytes::RowPtr;
-use std::alloc::AllocError;
+use std::alloc::{AllocError, Global};
 
 /// A record of a sort: a row's values for the key columns and for the INCLUDE columns, and the row
 /// that has them (`IndexTuple` and `SortTuple` of `tuplesort.h`).
@@ -19,11 +19,26 @@ pub struct Record {
     pub ptr: RowPtr,
 }
 
+impl Record {
+    /// A record without values, which takes no memory: one to be filled by `Run::read_into`.
+    pub fn new(alloc: Global) -> Record
+        ensures keys { result.keys ≡ [] }
+        ensures extra { result.extra ≡ [] }
+        ensures ptr { result.ptr ≡ record { block = 0; offset = 0 } }
+    {
+        Record {
+            keys: KeyList::new(alloc),
+            extra: KeyList::new(alloc),
+            ptr: RowPtr {
+                block: 0,
+                offset: 0,
+            },
+        }
+    }
+}
+
 /// The bytes of a length.
 pub(crate) const LENGTH: usize = 4;
-
-/// The bytes of a row pointer behind a key.
-pub(crate) const POINTER: usize = 6;
 
 /// How a column is written that no order is said of.
 pub(crate) const UNSAID: SortPart = SortPart {

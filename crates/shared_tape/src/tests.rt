@@ -284,6 +284,36 @@ fn values_are_read_back(rt: HostRuntime) -> Result<(), Fail> {
 }
 
 #[test]
+fn a_record_is_filled_anew(rt: HostRuntime) -> Result<(), Fail> {
+    let alloc = rt.alloc();
+    let rows = &[
+        at(0, 1, &[Num(1), Text(b"a longer text")]),
+        Row {
+            extra: &[Text(b"one"), Num(7), Text(b"three")],
+            ..at(0, 2, &[Num(2), Null])
+        },
+        at(0, 3, &[Null, Null]),
+        Row {
+            extra: &[Null, Text(b"two")],
+            ..at(0, 4, &[Null, Text(b"a\0b")])
+        },
+    ];
+    let order = order_of(alloc, &[ASCENDING, DESCENDING])?;
+    let run = run_of(alloc, &order, records(alloc, rows)?)?;
+    assert_eq!(rt; run.len(), rows.len());
+    let mut read = Record::new(alloc);
+    for (place, row) in rows.iter().enumerate() {
+        run.read_into(place, &mut read)?;
+        let keys = values(alloc, row.keys)?;
+        let extra = values(alloc, row.extra)?;
+        assert!(rt; cmp_key(&order, &read.keys, &keys).is_eq(), "{read:?}");
+        assert!(rt; cmp_key(&order, &read.extra, &extra).is_eq(), "{read:?}");
+        assert_eq!(rt; read.ptr.offset, row.offset);
+    }
+    Ok(())
+}
+
+#[test]
 fn tapes_give_their_runs_in_order(rt: HostRuntime) -> Result<(), Fail> {
     let alloc = rt.alloc();
     let order = order_of(alloc, &[ASCENDING])?;
