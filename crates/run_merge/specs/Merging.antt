@@ -1,5 +1,5 @@
 -- A merge that is under way, and the records that it gives (mergeonerun of tuplesort.c).
-use Rattle.std.specs.Prelude.{◌≡◌, Bool, false, Option, Some, None, List, [], ◌∷◌, All, IsTrue}
+use Rattle.std.specs.Prelude.{◌≡◌, Bool, false, true, Option, Some, None, List, [], ◌∷◌, All, IsTrue}
 use Rattle.std.specs.Ordering.{is_lt}
 use Rattle.std.specs.List.Sorted.{IsPermutation}
 use Rattle.opclass.specs.declared.spec.SortPart.{SortPart}
@@ -35,6 +35,11 @@ pub record GivesOne (old : Merging) (row : Record) (new : Merging) : Type 0 wher
 abbrev pub Gives : Merging → Merging → Option Record → Type 0
 Gives old new None = (old.left ≡ []) × (new ≡ old)
 Gives old new (Some row) = GivesOne old row new
+
+-- what a merge gives into a record, where true says that there was one
+abbrev pub GivesInto : Merging → Merging → Bool → Record → Type 0
+GivesInto old new false row = Gives old new None
+GivesInto old new true row = Gives old new (Some row)
 
 -- a merge gives these records, one after the other, and then has none
 abbrev pub GivesAll : Merging → List Record → Type 0

@@ -1,6 +1,6 @@
 ghost use Rattle.std.specs.Prelude.{◌≡◌, IfOk, OnErr, false};
 ghost use Rattle.std.specs.List.Sorted.{IsPermutation};
-ghost use Rattle.run_merge.specs.Merging.{Gives};
+ghost use Rattle.run_merge.specs.Merging.{GivesInto};
 ghost use Rattle.run_merge.specs.Sorted.{AllHaveOrder, all_records};
 
 use crate::between::Between;
@@ -60,16 +60,16 @@ impl HeapMerge {
         })
     }
 
-    /// Gives the next record, as `Merged::next` does.
-    pub fn next(&mut self) -> Result<Option<Record>, AllocError>
-        ensures given { IfOk result (λ next. Gives self.old self.new next) }
+    /// Fills a record with the next one, as `Merged::next_into` does.
+    pub fn next_into(&mut self, row: &mut Record) -> Result<bool, AllocError>
+        ensures given { IfOk result (λ given. GivesInto self.old self.new given row.new) }
         ensures kept { OnErr result (self.new ≡ self.old) }
     {
         let Some(first) = self.heads.first() else {
-            return Ok(None);
+            return Ok(false);
         };
-        let row = first.run(&self.tapes).read_at(first.at)?;
+        first.run(&self.tapes).read_into(first.at, row)?;
         move_on(&self.tapes, &mut self.heads);
-        Ok(Some(row))
+        Ok(true)
     }
 }

@@ -20,6 +20,7 @@
 //!
 //! - `Merged::next` gives one of the records that are left, none of which is below it, and None
 //!   exactly where none is left. Want of memory changes nothing, and the merge may go on.
+//!   `Merged::next_into` fills a record with the same, in the memory that it has.
 //! - So what a merge gives is its records in order (`merges_give_sorted`): as often as the tapes
 //!   have them, and the only such list where no two have equal keys and row pointers
 //!   (`sorted_records_are_one`).

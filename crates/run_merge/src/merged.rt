@@ -1,7 +1,7 @@
 ghost use Rattle.std.specs.Prelude.{◌≡◌, IfOk, OnErr, false, true};
 ghost use Rattle.std.specs.List.Sorted.{IsPermutation};
 ghost use Rattle.shared_tape.specs.Runs.{records_of};
-ghost use Rattle.run_merge.specs.Merging.{Gives, StandInOrder, order_of};
+ghost use Rattle.run_merge.specs.Merging.{Gives, GivesInto, StandInOrder, order_of};
 ghost use Rattle.run_merge.specs.Sorted.{AllHaveOrder, all_records};
 
 use crate::heap_merge::HeapMerge;
@@ -15,6 +15,7 @@ use std::marker::Model;
 /// they stand in order already.
 #[derive(Debug, Drop)]
 pub struct Merged {
+    alloc: Global,
     source: Source,
 }
 
@@ -44,6 +45,7 @@ pub fn merge(alloc: Global, tapes: Tapes, order: SortSpec) -> Result<Merged, All
 {
     let merge = HeapMerge::new(alloc, tapes, order)?;
     Ok(Merged {
+        alloc,
         source: Source::Heap(merge),
     })
 }
@@ -51,13 +53,14 @@ pub fn merge(alloc: Global, tapes: Tapes, order: SortSpec) -> Result<Merged, All
 impl Merged {
     /// The records of runs that stand in order already, as the parts of `merge_range` do. It takes
     /// no memory.
-    pub fn in_order(parts: Tape) -> Merged
+    pub fn in_order(alloc: Global, parts: Tape) -> Merged
         requires { StandInOrder parts }
         ensures order { result.order ≡ order_of parts }
         ensures left { result.left ≡ records_of parts }
         ensures in_order { result.in_order ≡ true }
     {
         Merged {
+            alloc,
             source: Source::Ordered(OrderedRuns::new(parts)),
         }
     }
@@ -69,21 +72,36 @@ impl Merged {
         ensures given { IfOk result (λ next. Gives self.old self.new next) }
         ensures kept { OnErr result (self.new ≡ self.old) }
     {
-        self.source.next()
+        let mut row = Record::new(self.alloc);
+        if self.source.next_into(&mut row)? {
+            Ok(Some(row))
+        } else {
+            Ok(None)
+        }
+    }
+
+    /// Fills a record anew with the next one, as `next` gives it, in the memory that it has. False
+    /// comes exactly where none is left. An error means that no memory was left, and then the merge
+    /// is unchanged and may go on. Unless the answer is true, the record's values may be any.
+    pub fn next_into(&mut self, row: &mut Record) -> Result<bool, AllocError>
+        ensures given { IfOk result (λ given. GivesInto self.old self.new given row.new) }
+        ensures kept { OnErr result (self.new ≡ self.old) }
+    {
+        self.source.next_into(row)
     }
 }
 
 impl Source {
     ghost use Rattle.run_merge.specs.Source.{merging_of};
 
-    fn next(&mut self) -> Result<Option<Record>, AllocError>
+    fn next_into(&mut self, row: &mut Record) -> Result<bool, AllocError>
         ensures given { IfOk result
-            (λ next. Gives (merging_of self.old) (merging_of self.new) next) }
+            (λ given. GivesInto (merging_of self.old) (merging_of self.new) given row.new) }
         ensures kept { OnErr result (merging_of self.new ≡ merging_of self.old) }
     {
         match self {
-            Source::Heap(merge) => merge.next(),
-            Source::Ordered(runs) => runs.next(),
+            Source::Heap(merge) => merge.next_into(row),
+            Source::Ordered(runs) => runs.next_into(row),
         }
     }
 }

@@ -1,7 +1,7 @@
 ghost use Rattle.std.specs.Prelude.{◌≡◌, ◌<◌, ◌≤◌, [], IfOk, OnErr, length, slice_index_or, true};
 ghost use Rattle.shared_tape.specs.Runs.{records_of};
 ghost use Rattle.run_merge.specs.Heads.{no_run};
-ghost use Rattle.run_merge.specs.Merging.{Gives, StandInOrder, order_of};
+ghost use Rattle.run_merge.specs.Merging.{GivesInto, StandInOrder, order_of};
 ghost use Rattle.run_merge.specs.Pass.{StandsAt, left_in};
 
 use shared_tape::{Record, Tape};
@@ -47,20 +47,20 @@ impl OrderedRuns {
         OrderedRuns { runs, run, at }
     }
 
-    /// Gives the next record, as `Merged::next` does.
-    pub fn next(&mut self) -> Result<Option<Record>, AllocError>
-        ensures given { IfOk result (λ next. Gives self.old self.new next) }
+    /// Fills a record with the next one, as `Merged::next_into` does.
+    pub fn next_into(&mut self, row: &mut Record) -> Result<bool, AllocError>
+        ensures given { IfOk result (λ given. GivesInto self.old self.new given row.new) }
         ensures kept { OnErr result (self.new ≡ self.old) }
     {
         if self.run == self.runs.runs() {
-            return Ok(None);
+            return Ok(false);
         }
         prove!(self.at < self.runs.run(self.run).len());
-        let row = self.runs.run(self.run).read_at(self.at)?;
+        self.runs.run(self.run).read_into(self.at, row)?;
         let (run, at) = skip_empty(&self.runs, self.run, self.at + 1);
         self.run = run;
         self.at = at;
-        Ok(Some(row))
+        Ok(true)
     }
 }
 

@@ -115,14 +115,25 @@ fn row_of(record: &Record) -> Row {
     (key, record.ptr.block, record.ptr.offset)
 }
 
-// That a merge gives these rows and then none.
-fn assert_gives(rt: &impl Abort, mut merged: Merged, wanted: &[Row]) -> Result<(), Fail> {
-    for row in wanted {
-        let record = merged.next()?.ok_or("too few")?;
-        assert_eq!(rt; row_of(&record), *row);
+// That a merge gives these rows and then none, whether each has a record of its own or not.
+fn assert_gives(
+    rt: &impl Abort,
+    alloc: Global,
+    mut merged: Merged,
+    wanted: &[Row],
+) -> Result<(), Fail> {
+    let mut kept = Record::new(alloc);
+    for (place, row) in wanted.iter().enumerate() {
+        if place % 3 == 0 {
+            let record = merged.next()?.ok_or("too few")?;
+            assert_eq!(rt; row_of(&record), *row);
+        } else {
+            assert!(rt; merged.next_into(&mut kept)?);
+            assert_eq!(rt; row_of(&kept), *row);
+        }
     }
     assert!(rt; merged.next()?.is_none());
-    assert!(rt; merged.next()?.is_none());
+    assert!(rt; !merged.next_into(&mut kept)?);
     Ok(())
 }
 
@@ -167,7 +178,7 @@ fn assert_merges(
     assert_parts(rt, alloc, &list, part, 31, wanted)?;
     assert_parts(rt, alloc, &list, part, 32, wanted)?;
     let merged = merge(alloc, list, order_of(alloc, part)?)?;
-    assert_gives(rt, merged, wanted)
+    assert_gives(rt, alloc, merged, wanted)
 }
 
 #[test]
@@ -246,7 +257,7 @@ fn many_runs_merge_in_order(rt: HostRuntime) -> Result<(), Fail> {
     }
     assert_parts(&rt, alloc, &tapes, ASCENDING, 31, &wanted)?;
     let merged = merge(alloc, tapes, order_of(alloc, ASCENDING)?)?;
-    assert_gives(&rt, merged, &wanted)
+    assert_gives(&rt, alloc, merged, &wanted)
 }
 
 // How many records the parts of so many have, and that the cuts are these.
@@ -319,15 +330,15 @@ fn in_order(alloc: Global, run: Run) -> Result<Merged, AllocError> {
     let _count = run.len();
     let mut tape = Tape::new(alloc);
     put_run(&mut tape, run)?;
-    Ok(Merged::in_order(tape))
+    Ok(Merged::in_order(alloc, tape))
 }
 
 #[test]
 fn records_in_order_are_given_in_place(rt: HostRuntime) -> Result<(), Fail> {
     let alloc = rt.alloc();
-    assert_gives(&rt, Merged::in_order(Tape::new(alloc)), &[])?;
+    assert_gives(&rt, alloc, Merged::in_order(alloc, Tape::new(alloc)), &[])?;
     let rows: &[Row] = &[(Some(2), 0, 1), (Some(1), 0, 2), (Some(2), 0, 0)];
     let run = run_of(alloc, ASCENDING, rows)?;
     let wanted: &[Row] = &[(Some(1), 0, 2), (Some(2), 0, 0), (Some(2), 0, 1)];
-    assert_gives(&rt, in_order(alloc, run)?, wanted)
+    assert_gives(&rt, alloc, in_order(alloc, run)?, wanted)
 }
