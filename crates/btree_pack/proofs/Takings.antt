@@ -283,12 +283,12 @@ joins-is old rows done group p row kept pending is row_is keeps some =
     (keep-is old.keys group.first row kept pending.keys_all row_is.keys_all (subst (λ l. KeepsUpToDifference l (row.keys ++ row.extra) kept) pending.values keeps))
 
 pub took-joins : (old : Grouper) (rows : List Row) (done : List Group) (group : Group) (p : RowGroup) (row : Row) (kept : ℕ) (ptrs : Vec RowPtr Global)
-    → IsReady old → IsPending old rows done group p → IsGroupOf old.kinds old.keys p → IsRowOf old.kinds old.keys row
+    (spare : List KeyVal) → IsReady old → IsPending old rows done group p → IsGroupOf old.kinds old.keys p → IsRowOf old.kinds old.keys row
     → KeepsUpToDifference p.values (row.keys ++ row.extra) kept → 0 < length old.ptrs.items
     → (old.shares && (nat_lt old.keys kept && nat_le (posting_size p.size (length old.ptrs.items + 1)) 812)) ≡ true
     → ptrs.items ≡ old.ptrs.items ++ row.pointer ∷ []
-    → IsPending (record old { pending = Some p; ptrs = ptrs }) (rows ++ row ∷ []) done (grown group row) p
-took-joins old rows done group p row kept ptrs ready pending is row_is keeps some joins pointers = record {
+    → IsPending (record old { pending = Some p; ptrs = ptrs; spare = spare }) (rows ++ row ∷ []) done (grown group row) p
+took-joins old rows done group p row kept ptrs spare ready pending is row_is keeps some joins pointers = record {
   is = refl;
   groups = groups-join old.kinds old.keys old.shares rows row done group (all-is old.kinds old.keys old.shares rows ready.keys_alone pending.rows_are) pending.groups
       (joins-is old rows done group p row kept pending is row_is keeps some ∙ joins);

@@ -1,4 +1,4 @@
-ghost use Rattle.std.specs.Prelude.{◌≡◌, ◌+◌, ◌*◌, ◌<◌, ◌≤◌, ◌^◌, ◌++◌, ◌∷◌, ◌&&◌, List, [], IfOk, OnOk, None, length, nat_le, nat_lt};
+ghost use Rattle.std.specs.Prelude.{◌≡◌, ◌+◌, ◌*◌, ◌<◌, ◌≤◌, ◌^◌, ◌++◌, ◌∷◌, ◌&&◌, List, [], IfOk, OnOk, None, Some, length, nat_le, nat_lt};
 ghost use Rattle.btree_item.specs.Tuple.{size_of};
 ghost use Rattle.btree_pack.specs.Groups.{Row, posting_size};
 ghost use Rattle.btree_pack.specs.Pass.Grouped.{HasRoom, IsGroupOf};
@@ -13,6 +13,7 @@ use opclass::{KeyList, Kinds};
 use pg_bytes::{RowPtr, al8};
 use shared_tape::Record;
 use std::alloc::{AllocError, Global};
+use std::mem;
 
 // The most bytes of a tuple with a list of row pointers (`maxpostingsize` of `nbtsort.c`).
 const POSTING_LIMIT: u64 = 812;
@@ -28,26 +29,25 @@ pub struct Grouper {
     pub shares: bool,
     pub last: Option<RowGroup>,
     pub pending: Option<RowGroup>,
+    // Values that no group has any more, for their memory.
+    pub spare: KeyList,
     pub ptrs: Vec<RowPtr>,
     pub tuple: Vec<u8>,
 }
 
 impl Grouper {
-    /// Takes one row more.
-    pub fn take(&mut self, row: Record) -> Result<(), AllocError>
+    /// Takes one row more. The record's values are others then, whose memory the next row can have.
+    pub fn take(&mut self, row: &mut Record) -> Result<(), AllocError>
         requires ready { IsReady self.old }
-        requires row { IsRowOf self.old.kinds self.old.keys (row_of row) }
+        requires row { IsRowOf self.old.kinds self.old.keys (row_of row.old) }
         ensures ready { OnOk result (IsReady self.new) }
         ensures packed { OnOk result ((rows : List Row) → HasPacked rows self.old
-            → HasPacked (rows ++ row_of row ∷ []) self.new) }
+            → HasPacked (rows ++ row_of row.old ∷ []) self.new) }
         ensures same { OnOk result (IsOfOneIndex self.old self.new) }
     {
-        let Record {
-            keys: mut values,
-            extra,
-            ptr,
-        } = row;
-        append(&mut values, extra)?;
+        let ptr = row.ptr;
+        let mut values = mem::replace(&mut self.spare, KeyList::new(self.alloc));
+        exchange(row, &mut values)?;
         let Some(group) = self.pending.take() else {
             self.begin(values, ptr, 0, None)?;
             return Ok(());
@@ -56,6 +56,7 @@ impl Grouper {
         if self.joins(&group, kept) {
             self.ptrs.push(ptr)?;
             self.pending = Some(group);
+            self.spare = values;
             return Ok(());
         }
         let last = self.ptrs[self.ptrs.len() - 1];
@@ -141,8 +142,17 @@ impl Grouper {
         } else {
             self.tower.add(&mut self.tuple, extra)?;
         }
-        self.last = Some(group);
+        self.keep_last(group);
         Ok(())
+    }
+
+    // Keeps the group that came last to the leaves in place of the one before.
+    fn keep_last(&mut self, group: RowGroup)
+        ensures { self.new ≡ record self.old { last = Some group; spare = self.new.spare } }
+    {
+        if let Some(before) = self.last.replace(group) {
+            self.spare = before.values;
+        }
     }
 
     // The high key of the open leaf, whose last tuple is that of the last group.
@@ -165,26 +175,39 @@ impl Grouper {
     }
 }
 
-// Puts values behind others.
-fn append(values: &mut KeyList, extra: KeyList) -> Result<(), AllocError>
-    ensures { OnOk result (values.new ≡ values.old ++ extra) }
+// Gives a record's values, in exchange for others whose memory it can have.
+fn exchange(row: &mut Record, values: &mut KeyList) -> Result<(), AllocError>
+    ensures { OnOk result (values.new ≡ row.old.keys ++ row.old.extra) }
 {
-    if extra.len() == 0 {
+    mem::swap(&mut row.keys, values);
+    if row.extra.len() == 0 {
         return Ok(());
     }
-    append_all(values, extra)
+    let keys = values.len();
+    append(values, &mut row.extra)?;
+    split(row, keys);
+    Ok(())
 }
 
-// The same, for a list that has some as a rule.
-fn append_all(values: &mut KeyList, mut extra: KeyList) -> Result<(), AllocError>
-    ensures { OnOk result (values.new ≡ values.old ++ extra) }
+// Puts values behind others.
+fn append(values: &mut KeyList, extra: &mut KeyList) -> Result<(), AllocError>
+    ensures { OnOk result (values.new ≡ values.old ++ extra.old) }
 {
     let Some(last) = extra.pop() else {
         return Ok(());
     };
-    append_all(values, extra)?;
+    append(values, extra)?;
     match values.push(last) {
         Ok(()) => Ok(()),
         Err(_) => Err(AllocError),
+    }
+}
+
+// Moves the keys past so many to the other values, for their memory.
+fn split(row: &mut Record, keys: usize) {
+    for _ in keys..row.keys.len() {
+        if let Some(value) = row.keys.pop() {
+            let _ = row.extra.push(value);
+        }
     }
 }

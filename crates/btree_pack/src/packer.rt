@@ -9,7 +9,7 @@ ghost use Rattle.btree_pack.specs.Pass.Taken.{IsReady, row_of};
 
 use crate::grouper::Grouper;
 use crate::open_tower::OpenTower;
-use opclass::{IndexSpec, Kinds};
+use opclass::{IndexSpec, KeyList, Kinds};
 use pg_bytes::IndexImage;
 use shared_tape::Record;
 use std::alloc::{AllocError, Global};
@@ -50,19 +50,21 @@ impl Packer {
             shares: may_share(spec),
             last: None,
             pending: None,
+            spare: KeyList::new(alloc),
             ptrs: Vec::new(alloc),
             tuple: Vec::new(alloc),
         };
         Ok(Packer { rows, spent: false })
     }
 
-    /// Puts a row behind the others, which come in their order. An error means that no memory was
-    /// left, and then every later call answers the same.
-    pub fn put(&mut self, row: Record) -> Result<(), AllocError>
-        requires { Takes self.old (row_of row) }
+    /// Puts a row behind the others, which come in their order. The packer takes the record's
+    /// values and leaves it others, whose memory the next row can have. An error means that no
+    /// memory was left, and then every later call answers the same.
+    pub fn put(&mut self, row: &mut Record) -> Result<(), AllocError>
+        requires { Takes self.old (row_of row.old) }
         ensures ok { OnOk result ((spec : IndexSpec) → (kinds : List ColType) → (rows : List Row)
             → HasPut spec kinds rows self.old
-            → HasPut spec kinds (rows ++ row_of row ∷ []) self.new) }
+            → HasPut spec kinds (rows ++ row_of row.old ∷ []) self.new) }
         ensures err { OnErr result (IsSpent self.new) }
         ensures spent { IsSpent self.old → IsErr result }
     {

@@ -247,8 +247,8 @@ fn packed(
     let keys = spec.keys.len();
     let mut packer = Packer::new(alloc, spec, columns)?;
     for number in 0..case.count {
-        let row = row_at(rt, alloc, kinds, keys, case, number)?;
-        packer.put(row)?;
+        let mut row = row_at(rt, alloc, kinds, keys, case, number)?;
+        packer.put(&mut row)?;
     }
     let image = packer.finish()?;
     Ok(image)

@@ -1,5 +1,5 @@
 use Rattle.std.proofs.Common.{length}
-use Rattle.btree_pack.proofs.grouper.+append_all.Given as goal
+use Rattle.btree_pack.proofs.grouper.+append.Given as goal
 
-abbrev pub decreases-append_all : goal.decreases-append_all
-decreases-append_all l = length l.extra
+abbrev pub decreases-append : goal.decreases-append
+decreases-append l = length l.extra.now

@@ -13,7 +13,7 @@ returns-in_default-clause-packed c =
     λ rows has.
     let old = c.args.self.now in
     let b = c.in_ok-begin.ensures in
-    took-first old c.begin.new.self (row_of c.args.row) c.append.new.values rows (sym c.in_default.ensures.value) c.requires.row c.in_ok-append.ensures
+    took-first old c.begin.new.self (row_of c.args.row.now) c.exchange.new.values rows (sym c.in_default.ensures.value) c.requires.row c.in_ok-exchange.ensures
     (record { pending = b.pending; ptrs = b.ptrs; tower = b.tower; last = b.last; kinds = b.kinds; keys = b.keys; shares = b.shares }) has
 
 pub returns-then-joins-clause-packed : goal.returns-then-joins-clause-packed
@@ -24,15 +24,15 @@ returns-then-joins-clause-packed c =
     let some = sym c.in-Some.ensures.value in
     let at = found old rows p some has in
     let facts = pending-facts old p c.requires.ready some in
-    let row = row_of c.args.row in
-    let keeps : KeepsUpToDifference p.values (row.keys ++ row.extra) c.truncate-kept.result = rw c.in_ok-append.ensures at c.truncate-kept.ensures in
+    let row = row_of c.args.row.now in
+    let keeps : KeepsUpToDifference p.values (row.keys ++ row.extra) c.truncate-kept.result = rw c.in_ok-exchange.ensures at c.truncate-kept.ensures in
     inr (
       at.done,
       (
         grown at.group row,
         (
           p,
-          took-joins old rows at.done at.group p row c.truncate-kept.result c.push.new.self c.requires.ready at.pending facts.0 c.requires.row keeps facts.1
+          took-joins old rows at.done at.group p row c.truncate-kept.result c.push.new.self c.exchange.new.values c.requires.ready at.pending facts.0 c.requires.row keeps facts.1
               (sym c.joins.ensures ∙ c.if-joins.true) c.in_ok-push.ensures.items,
         ),
       ),
@@ -46,9 +46,9 @@ returns-then-from-self-clause-packed c =
     let some = sym c.in-Some.ensures.value in
     let at = found old rows p some has in
     let facts = pending-facts old p c.requires.ready some in
-    let row = row_of c.args.row in
-    let values : List KeyVal = c.append.new.values in
-    let keeps : KeepsUpToDifference p.values (row.keys ++ row.extra) c.truncate-kept.result = rw c.in_ok-append.ensures at c.truncate-kept.ensures in
+    let row = row_of c.args.row.now in
+    let values : List KeyVal = c.exchange.new.values in
+    let keeps : KeepsUpToDifference p.values (row.keys ++ row.extra) c.truncate-kept.result = rw c.in_ok-exchange.ensures at c.truncate-kept.ensures in
     let e = c.in_ok-emit.ensures.emitted in
     let made : HasEmitted old c.emit.new.self p = record {
       packing = e.packing;
@@ -71,9 +71,9 @@ returns-then-from-self-clause-packed c =
         (
           record { values = values; size = size_of c.emit.new.self.kinds values; kept = c.emit.new.self.keys; pointer = Some c.index-last.result.now },
           took-begins old c.emit.new.self c.begin-then-from-self.new.self rows at.done at.group p row values c.emit.new.self.keys (Some c.index-last.result.now)
-              c.requires.ready at.pending facts.0 c.requires.row (apart ∙ c.if-joins.false) made begun c.in_ok-append.ensures
+              c.requires.ready at.pending facts.0 c.requires.row (apart ∙ c.if-joins.false) made begun c.in_ok-exchange.ensures
               (rw made.keys (tells-pointer old.kinds old.keys (size_of c.emit.new.self.kinds values) at.group row values c.index-last.result.now c.truncate-kept.result
-              at.pending.keys_all c.requires.row.keys_all c.in_ok-append.ensures
+              at.pending.keys_all c.requires.row.keys_all c.in_ok-exchange.ensures
               (subst (λ l. KeepsUpToDifference l (row.keys ++ row.extra) c.truncate-kept.result) at.pending.values keeps) many
               (greatest-is old.ptrs.items at.group _ c.index-last.result.now at.pending.pointers (let l = c.len.ensures in let o = old.ptrs.ok.0 in omega arith) c.index-last.ensures))),
         ),
@@ -88,9 +88,9 @@ returns-clause-packed c =
     let some = sym c.in-Some.ensures.value in
     let at = found old rows p some has in
     let facts = pending-facts old p c.requires.ready some in
-    let row = row_of c.args.row in
-    let values : List KeyVal = c.append.new.values in
-    let keeps : KeepsUpToDifference p.values (row.keys ++ row.extra) c.truncate-kept.result = rw c.in_ok-append.ensures at c.truncate-kept.ensures in
+    let row = row_of c.args.row.now in
+    let values : List KeyVal = c.exchange.new.values in
+    let keeps : KeepsUpToDifference p.values (row.keys ++ row.extra) c.truncate-kept.result = rw c.in_ok-exchange.ensures at c.truncate-kept.ensures in
     let e = c.in_ok-emit.ensures.emitted in
     let made : HasEmitted old c.emit.new.self p = record {
       packing = e.packing;
@@ -112,9 +112,9 @@ returns-clause-packed c =
         (
           record { values = values; size = size_of c.emit.new.self.kinds values; kept = c.truncate-kept.result; pointer = None },
           took-begins old c.emit.new.self c.begin-2.new.self rows at.done at.group p row values c.truncate-kept.result None
-              c.requires.ready at.pending facts.0 c.requires.row (apart ∙ c.if-joins.false) made c.in_ok-begin-3.ensures c.in_ok-append.ensures
+              c.requires.ready at.pending facts.0 c.requires.row (apart ∙ c.if-joins.false) made c.in_ok-begin-3.ensures c.in_ok-exchange.ensures
               (tells-keys old.kinds old.keys (size_of c.emit.new.self.kinds values) at.group row values c.truncate-kept.result
-              at.pending.keys_all c.requires.row.keys_all c.in_ok-append.ensures
+              at.pending.keys_all c.requires.row.keys_all c.in_ok-exchange.ensures
               (subst (λ l. KeepsUpToDifference l (row.keys ++ row.extra) c.truncate-kept.result) at.pending.values keeps) few),
         ),
       ),
