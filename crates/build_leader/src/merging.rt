@@ -34,7 +34,7 @@ pub(crate) fn merge_tapes<Rt: Threads + Sync>(
     }
     let cuts = cut_points(alloc, &tapes, threads, &order)?;
     let parts = merge_parts(rt, alloc, &tapes, &cuts, cuts.len() + 1, &order)?;
-    Ok(Merged::in_order(parts))
+    Ok(Merged::in_order(alloc, parts))
 }
 
 // Merges the first parts, each on a thread of its own where one can be made: a run for each, in

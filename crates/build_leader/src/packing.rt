@@ -11,6 +11,7 @@ use pg_bytes::IndexImage;
 use run_merge::Merged;
 use shared_tape::Record;
 use std::alloc::Global;
+use std::mem;
 
 /// Packs the rows that a merge gives, as they come (`_bt_load`). A unique index is refused where
 /// two neighbours break its rule, with the first two that do.
@@ -26,39 +27,46 @@ pub(crate) fn pack(
     ensures refused { IfErr result (IsPackFault spec.now merged.order merged.left) }
 {
     let mut packer = Packer::new(alloc, spec, kinds)?;
-    put_rows(spec, &mut packer, merged)?;
+    put_rows(alloc, spec, &mut packer, merged)?;
     Ok(packer.finish()?)
 }
 
 // Puts the rows as they come. Each is held back until it is compared with the next.
-fn put_rows(spec: &IndexSpec, packer: &mut Packer, mut merged: Merged) -> Result<(), LeadFault>
+fn put_rows(
+    alloc: Global,
+    spec: &IndexSpec,
+    packer: &mut Packer,
+    mut merged: Merged,
+) -> Result<(), LeadFault>
     requires fresh { HasPut spec.now packer.old.rows.kinds [] packer.old }
     requires rows { AreRowsOf spec.now packer.old.rows.kinds merged.left }
     ensures put { OnOk result (WerePut spec.now packer.old.rows.kinds merged.order merged.left
         packer.new) }
     ensures refused { IfErr result (IsPackFault spec.now merged.order merged.left) }
 {
-    let Some(mut held) = merged.next()? else {
+    let mut held = Record::new(alloc);
+    if !merged.next_into(&mut held)? {
         return Ok(());
-    };
-    while let Some(next) = merged.next()? {
-        put_before(spec, packer, held, &next)?;
-        held = next;
     }
-    Ok(packer.put(held)?)
+    let mut next = Record::new(alloc);
+    'rows: while merged.next_into(&mut next)? {
+        put_before(spec, packer, &mut held, &next)?;
+        mem::swap(&mut held, &mut next);
+    }
+    Ok(packer.put(&mut held)?)
 }
 
 // Puts a row, unless the next one breaks the unique rule with it.
 fn put_before(
     spec: &IndexSpec,
     packer: &mut Packer,
-    held: Record,
+    held: &mut Record,
     next: &Record,
 ) -> Result<(), LeadFault>
-    requires { Takes packer.old (row_of held) }
-    ensures put { OnOk result (TakesRow packer.old held packer.new) }
-    ensures apart { OnOk result (IsTrue spec.now.unique → Clash spec.now held next.now → ⊥) }
-    ensures refused { IfErr result (IsClash spec.now held next.now) }
+    requires { Takes packer.old (row_of held.old) }
+    ensures put { OnOk result (TakesRow packer.old held.old packer.new) }
+    ensures apart { OnOk result (IsTrue spec.now.unique → Clash spec.now held.old next.now → ⊥) }
+    ensures refused { IfErr result (IsClash spec.now held.old next.now) }
 {
     if spec.unique && clash(spec.nulls_distinct, &held.keys, &next.keys) {
         return Err(LeadFault::Duplicate {

@@ -3,4 +3,4 @@ use Rattle.build_leader.proofs.packing.put_before.Goals as goal
 
 pub returns-clause-put : goal.returns-clause-put
 returns-clause-put c =
-    λ spec kinds. put_more spec kinds c.args.packer.now c.put.new.self c.args.held (c.in_ok-put.ensures.ok spec kinds)
+    λ spec kinds. put_more spec kinds c.args.packer.now c.put.new.self c.args.held.now (c.in_ok-put.ensures.ok spec kinds)
