@@ -15,6 +15,7 @@ use pg_bytes::{IndexImage, RowPtr};
 use run_merge::Merged;
 use shared_tape::Record;
 use std::alloc::{AllocError, Global};
+use std::mem;
 
 /// The file of a GIN index over a column of this array type, whose entries a merge gives (`ginbuild`
 /// of `gininsert.c`): records of entries, in their order. The file is read as the map from these
@@ -28,8 +29,9 @@ pub fn pack(alloc: Global, kind: ColType, mut merged: Merged) -> Result<IndexIma
     ensures { IfOk result (IsGinFile kind merged.left) }
 {
     let mut packer = Packer::new(alloc, kind)?;
-    'records: while let Some(row) = merged.next()? {
-        packer.take(row)?;
+    let mut row = Record::new(alloc);
+    'records: while merged.next_into(&mut row)? {
+        packer.take(&mut row)?;
     }
     let file = packer.finish()?;
     Ok(file)
@@ -41,6 +43,8 @@ pub fn pack(alloc: Global, kind: ColType, mut merged: Merged) -> Result<IndexIma
 pub struct Packer {
     pub store: EntryStore,
     pub pending: Option<KeyList>,
+    // The columns of an entry that is stored, for their memory.
+    pub spare: KeyList,
     pub ptrs: Vec<RowPtr>,
 }
 
@@ -53,37 +57,35 @@ impl Packer {
         Ok(Packer {
             store,
             pending: None,
+            spare: KeyList::new(alloc),
             ptrs: Vec::new(alloc),
         })
     }
 
-    /// Takes the next record: its pointer comes to the entry that comes, or begins another. An error
-    /// means that no memory was left.
-    pub fn take(&mut self, row: Record) -> Result<(), AllocError>
+    /// Takes the next record: its pointer comes to the entry that comes, or begins another. The
+    /// record's keys may be others then. An error means that no memory was left.
+    pub fn take(&mut self, row: &mut Record) -> Result<(), AllocError>
         requires { IsTaking self.old }
-        ensures { OnOk result (Takes self.old self.new row.keys row.ptr) }
+        ensures { OnOk result (Takes self.old self.new row.old.keys row.old.ptr) }
     {
-        let Record {
-            keys,
-            extra: _,
-            ptr,
-        } = row;
-        if !self.is_coming(&keys) {
-            self.begin(keys, ptr)?;
+        if !self.is_coming(&row.keys) {
+            self.begin(&mut row.keys, row.ptr)?;
             return Ok(());
         }
-        self.ptrs.push(ptr)?;
+        self.ptrs.push(row.ptr)?;
         Ok(())
     }
 
-    // Stores the entry that comes, and begins another with its first pointer.
-    fn begin(&mut self, keys: KeyList, ptr: RowPtr) -> Result<(), AllocError>
+    // Stores the entry that comes, and begins another with its first pointer: its columns go in
+    // exchange for those of an entry that is stored.
+    fn begin(&mut self, keys: &mut KeyList, ptr: RowPtr) -> Result<(), AllocError>
         requires taking { IsTaking self.old }
-        requires other { self.old.pending ≢ Some keys }
-        ensures { OnOk result (Takes self.old self.new keys ptr) }
+        requires other { self.old.pending ≢ Some keys.old }
+        ensures { OnOk result (Takes self.old self.new keys.old ptr) }
     {
         self.store_pending()?;
-        self.pending = Some(keys);
+        let spare = mem::replace(&mut self.spare, KeyList::new(*self.ptrs.allocator()));
+        self.pending = Some(mem::replace(keys, spare));
         self.ptrs.push(ptr)?;
         Ok(())
     }
@@ -115,20 +117,21 @@ impl Packer {
         requires { IsTaking self.old }
         ensures { OnOk result (StoresPending self.old self.new) }
     {
-        let Some(keys) = self.pending.take() else {
+        let Some(mut keys) = self.pending.take() else {
             return Ok(());
         };
-        let entry = entry_of(keys);
+        let entry = entry_of(&mut keys);
         self.store.store(&entry, &self.ptrs)?;
         self.ptrs.clear();
+        self.spare = columns_with(keys, entry.key);
         Ok(())
     }
 }
 
-// The entry that has these columns: its category, and its key.
-fn entry_of(mut keys: KeyList) -> Entry
-    requires { AreColumns keys }
-    ensures { (entry : Entry) → keys ≡ columns_of entry → result ≡ entry }
+// The entry that has these columns, which are taken out: its category, and its key.
+fn entry_of(keys: &mut KeyList) -> Entry
+    requires { AreColumns keys.old }
+    ensures { (entry : Entry) → keys.old ≡ columns_of entry → result ≡ entry }
 {
     let Some(key) = keys.pop() else {
         unreachable!();
@@ -140,4 +143,12 @@ fn entry_of(mut keys: KeyList) -> Entry
         category: category as u8,
         key,
     }
+}
+
+// A list with a key in the second place, for their memory.
+fn columns_with(mut keys: KeyList, key: KeyVal) -> KeyList {
+    if keys.push(KeyVal::Nil).is_ok() {
+        let _ = keys.push(key);
+    }
+    keys
 }

@@ -1,5 +1,5 @@
-use Rattle.std.proofs.Common.{subst}
-use Rattle.run_merge.specs.Merging.{Gives, GivesOne}
+use Rattle.std.proofs.Common.{Bool, subst}
+use Rattle.run_merge.specs.Merging.{GivesInto, GivesOne}
 use Rattle.gin_pack.proofs.Packing.{all-came, fewer-left, may-take, none-came, one-came}
 use Rattle.gin_pack.proofs.packer.pack.Goals as goal
 
@@ -12,16 +12,20 @@ take-requires c = may-take c.args.kind c.args.merged.left c.records.merged c.rec
 pub records-smaller : goal.records-smaller
 records-smaller c =
     let old = c.records.merged in
-    let new = c.next.new.self in
-    let one : GivesOne old c.in-Some.row new = subst (Gives old new) c.in-Some.is c.in_ok-row.ensures.given in
-    fewer-left old new c.in-Some.row one
+    let new = c.next_into.new.self in
+    let row = c.next_into.new.row in
+    let one : GivesOne old row new =
+    subst (λ (given : Bool). GivesInto old new given row) c.if-branch.true c.in_ok-next_into.ensures.given in
+    fewer-left old new row one
 
 pub records-preserved : goal.records-preserved
 records-preserved c =
     let old = c.records.merged in
-    let new = c.next.new.self in
-    let one : GivesOne old c.in-Some.row new = subst (Gives old new) c.in-Some.is c.in_ok-row.ensures.given in
-    one-came c.args.kind c.args.merged.left old new c.records.packer c.take.new.self c.in-Some.row c.requires.apart one
+    let new = c.next_into.new.self in
+    let row = c.next_into.new.row in
+    let one : GivesOne old row new =
+    subst (λ (given : Bool). GivesInto old new given row) c.if-branch.true c.in_ok-next_into.ensures.given in
+    one-came c.args.kind c.args.merged.left old new c.records.packer c.take.new.self row c.requires.apart one
     c.in_ok-take.ensures c.records.invariant
 
 pub finish-requires : goal.finish-requires
@@ -30,5 +34,6 @@ finish-requires c = may-take c.args.kind c.args.merged.left c.records.merged c.r
 pub returns : goal.returns
 returns c =
     let old = c.records.merged in
-    let none = subst (Gives old c.next.new.self) c.in_default.is c.in_ok-row.ensures.given in
+    let none = subst (λ (given : Bool). GivesInto old c.next_into.new.self given c.next_into.new.row) c.if-branch.false
+    c.in_ok-next_into.ensures.given in
     all-came c.args.kind c.args.merged.left old c.records.packer c.in_ok-file.file none.0 c.records.invariant c.in_ok-file.ensures
