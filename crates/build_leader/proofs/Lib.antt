@@ -38,3 +38,7 @@ pub mod Claiming
 pub mod Teaming
 -- what all of them come to at the end
 pub mod Finishing
+-- the entries of rows of arrays
+pub mod EntryRows
+-- rows that have an entry that is too large
+pub mod WideEntries

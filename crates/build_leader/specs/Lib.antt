@@ -26,3 +26,9 @@ pub mod Laws
 pub mod Merging
 -- what the pass over sorted rows keeps
 pub mod Pass
+-- the entries of rows of arrays
+pub mod Entries
+-- what the packing of a GIN index asks and gives
+pub mod Gin
+-- which arrays may have entries that are too large
+pub mod WideEntry

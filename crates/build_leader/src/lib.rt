@@ -60,6 +60,7 @@ mod built;
 mod columns;
 mod fault;
 mod gate;
+mod gin;
 mod laws;
 mod leader;
 mod merging;
@@ -69,6 +70,7 @@ mod row_reader;
 mod scan;
 mod scanned;
 mod team;
+mod wide_entry;
 mod worker;
 
 pub use built::Built;

@@ -1,0 +1,91 @@
+//! Whether a row of an array has an entry that is too large (`GinFormTuple` of `ginentrypage.c`).
+
+ghost use Rattle.std.specs.Prelude.{◌≡◌, ◌↔◌, ◌<◌, [], ◌∷◌, All, Any, IfOk, IsTrue};
+ghost use Rattle.std.specs.List.{AllZip};
+ghost use Rattle.pg_bytes.specs.PageLayout.{page_size};
+ghost use Rattle.opclass.specs.Values.{IsValueOf};
+ghost use Rattle.heap_row.specs.Typed.{ElementHasAtMost, HasAtMost};
+ghost use Rattle.gin_entry.specs.Entries.{entry_of};
+ghost use Rattle.gin_entry.specs.EntrySize.{entry_size};
+ghost use Rattle.gin_pack.specs.EntryTuple.{most_size};
+ghost use Rattle.build_leader.specs.Entries.{HasWideEntry};
+ghost use Rattle.build_leader.specs.WideEntry.{HasTexts};
+
+use gin_entry::{Entry, entry_size};
+use opclass::{ColType, Elem, Form, KeyList, KeyVal, Kinds, Width};
+use std::alloc::{AllocError, Global};
+
+/// The most bytes of an entry's tuple: three have room on a page (`GinMaxItemSize` of `ginblock.h`).
+const MOST_SIZE: u64 = 2712;
+
+/// A text of at most so many bytes never makes an entry too large.
+const SHORT_TEXT: usize = 2676;
+
+/// Whether an entry of the one value of a row is too large. Only a long text can make it so, and no
+/// other element is copied. An error means that no memory was left.
+pub(crate) fn has_wide_entry(
+    alloc: Global,
+    kinds: &Kinds,
+    values: &KeyList,
+) -> Result<bool, AllocError>
+    requires typed { AllZip IsValueOf kinds.now values.now }
+    requires short { All (HasAtMost page_size) values.now }
+    ensures { IfOk result (λ wide. IsTrue wide ↔ HasWideEntry kinds.now values.now) }
+{
+    if kinds.len() != 1 || values.len() != 1 {
+        return Ok(false);
+    }
+    is_wide_value(alloc, *kinds.get(0), values.get(0))
+}
+
+// Whether an entry of a column's value is too large.
+fn is_wide_value(alloc: Global, kind: ColType, value: &KeyVal) -> Result<bool, AllocError>
+    requires typed { IsValueOf kind value.now }
+    requires short { HasAtMost page_size value.now }
+    ensures { IfOk result (λ wide. IsTrue wide ↔ HasWideEntry (kind ∷ []) (value.now ∷ [])) }
+{
+    match value {
+        KeyVal::Items(elements) if has_texts(kind) => has_wide(alloc, kind, elements.as_slice()),
+        _ => Ok(false),
+    }
+}
+
+// Whether the elements of arrays of this type have as many bytes as they like.
+fn has_texts(kind: ColType) -> bool
+    ensures { IsTrue result ↔ HasTexts kind }
+{
+    match kind.facts().form {
+        Form::Array(element) => element.facts().width == Width::Variable,
+        _ => false,
+    }
+}
+
+// Whether the entry of one of these elements is too large.
+fn has_wide(alloc: Global, kind: ColType, elements: &[Elem]) -> Result<bool, AllocError>
+    requires { All (ElementHasAtMost page_size) elements.now }
+    ensures { IfOk result (λ wide. IsTrue wide
+        ↔ Any (λ element. most_size < entry_size kind (entry_of element)) elements.now) }
+{
+    for element in elements {
+        if is_wide(alloc, kind, element)? {
+            return Ok(true);
+        }
+    }
+    Ok(false)
+}
+
+// Whether the entry of an element is too large.
+fn is_wide(alloc: Global, kind: ColType, element: &Elem) -> Result<bool, AllocError>
+    requires { ElementHasAtMost page_size element.now }
+    ensures { IfOk result (λ wide. IsTrue wide
+        ↔ (most_size < entry_size kind (entry_of element.now))) }
+{
+    match element {
+        Elem::Null | Elem::Num(_) => Ok(false),
+        Elem::Raw(bytes) if bytes.len() <= SHORT_TEXT => Ok(false),
+        Elem::Raw(_) => {
+            let entry = Entry::of(alloc, element)?;
+            Ok(entry_size(kind, &entry) > MOST_SIZE)
+        }
+    }
+}
