@@ -14,7 +14,7 @@ use Rattle.build_leader.specs.Blocks.{block_count, page_of}
 use Rattle.build_leader.specs.HeapRows.{AreBlockRows, AreHeapRows, AreRowsOfBlocks, HasSoundBlocks}
 use Rattle.build_leader.specs.IndexRow.{AreIndexRows}
 
-Pairs-append : {X : Type 0} (R : X → X → Type 0) (xs ys : List X) → Pairs R xs → Pairs R ys → All (λ x. All (R x) ys) xs
+pub Pairs-append : {X : Type 0} (R : X → X → Type 0) (xs ys : List X) → Pairs R xs → Pairs R ys → All (λ x. All (R x) ys) xs
     → Pairs R (xs ++ ys)
 Pairs-append R [] ys p q between = q
 Pairs-append R (x ∷ xs) ys p q between = (
@@ -23,7 +23,7 @@ Pairs-append R (x ∷ xs) ys p q between = (
 )
 
 -- two rows with different row pointers
-abbrev Differ : Record → Record → Type 0
+abbrev pub Differ : Record → Record → Type 0
 Differ a b = a.ptr ≢ b.ptr
 
 -- two rows of a page with different roots
@@ -115,10 +115,15 @@ module _ (table : Table) (spec : IndexSpec) where
         omega (arith, its, from_there)) are.1.0 behind)
         are.0 (of_block from are.0 are.1.2)))
 
--- the rows of a sound heap are told apart by their row pointers
+-- the rows of a sound heap have different row pointers
+pub heap_pointers_differ : (table : Table) (spec : IndexSpec) (heap : List ℕ) (rows : List Record)
+    → HasSoundBlocks table spec heap → AreHeapRows table spec heap rows → Pairs Differ rows
+heap_pointers_differ table spec heap rows sound are =
+    blocks_apart table spec heap 0 (block_count heap) rows (λ block below. (sound block (omega arith)).chains) are
+
+-- so they are told apart
 pub heap_rows_apart : (table : Table) (spec : IndexSpec) (heap : List ℕ) (rows : List Record)
     → HasSoundBlocks table spec heap → AreHeapRows table spec heap rows → AreApart rows
 heap_rows_apart table spec heap rows sound are i j d less inside same =
-    Pairs-to Differ rows
-    (blocks_apart table spec heap 0 (block_count heap) rows (λ block below. (sound block (omega arith)).chains) are)
-    i j d less inside (ap (λ pair. pair.1) same)
+    Pairs-to Differ rows (heap_pointers_differ table spec heap rows sound are) i j d less inside
+    (ap (λ pair. pair.1) same)
