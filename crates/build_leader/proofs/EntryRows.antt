@@ -1,6 +1,6 @@
 -- The entries of rows of arrays: those of several lists of rows, and the map from them to the rows.
-use Rattle.std.proofs.Common.{◌≡◌, ◌↔◌, ◌⊎◌, ℕ, List, [], ◌∷◌, ◌++◌, map, refl, sym, ap, subst, ◌∙◌, inl, inr}
-use Rattle.std.specs.Prelude.{Any, Contains}
+use Rattle.std.proofs.Common.{◌≡◌, ℕ, List, [], ◌∷◌, ◌++◌, map, refl, sym, ap, subst, ◌∙◌, inl, inr}
+use Rattle.std.specs.Prelude.{Contains}
 use Rattle.std.specs.List.{flat_map}
 use Rattle.std.specs.List.Sorted.{IsPermutation}
 use Rattle.std.proofs.lemmas.List.Concat.{flat_map-append}
@@ -18,7 +18,7 @@ use Rattle.gin_entry.proofs.Members.{Any-from, Any-from_map, Contains-behind, Co
 use Rattle.shared_tape.specs.declared.stored.Record.{Record}
 use Rattle.spool.specs.Gathers.{entry_record}
 use Rattle.run_merge.proofs.Moves.{IsPermutation-flat_map}
-use Rattle.gin_pack.specs.File.{IsGinFile, Leads}
+use Rattle.gin_pack.specs.File.{Leads}
 use Rattle.gin_pack.proofs.Takings.{same-entry}
 use Rattle.build_leader.specs.Entries.{IsGinIndexOf, array_of, array_row, row_entries, rows_entries}
 use Rattle.build_leader.specs.Gin.{IsEntryFile}

@@ -42,3 +42,7 @@ pub mod Finishing
 pub mod EntryRows
 -- rows that have an entry that is too large
 pub mod WideEntries
+-- the records of the entries of a heap's rows
+pub mod EntryRecords
+-- where the entries of an index lead
+pub mod EntryLeads

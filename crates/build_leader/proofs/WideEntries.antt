@@ -1,10 +1,8 @@
 -- Which rows of arrays have an entry that is too large.
-use Rattle.std.proofs.Common.{◌≡◌, ◌↔◌, ℕ, ◌+◌, ◌^◌, ◌<◌, ◌≤◌, Bool, IsTrue, false, List, [], ◌∷◌, length, Some, refl, sym, ap, subst, ◌∙◌, inl, inr, arith, All}
-use Rattle.std.specs.Prelude.{Any, Contains, slice_get}
-use Rattle.std.specs.List.{AllZip}
+use Rattle.std.proofs.Common.{◌≡◌, ◌↔◌, ℕ, ◌+◌, ◌<◌, ◌≤◌, Bool, IsTrue, false, List, [], ◌∷◌, length, Some, refl, ap, subst, inl, inr, arith, All}
+use Rattle.std.specs.Prelude.{Any, slice_get}
 use Rattle.std.proofs.lemmas.Bool.{cases_lt}
 use Rattle.std.proofs.lemmas.List.Elements.{All-contains}
-use Rattle.pg_bytes.specs.PageLayout.{page_size}
 use Rattle.opclass.specs.declared.types.ColType.{ColType}
 use Rattle.opclass.specs.declared.types.ColType.TheVariants as ty
 use Rattle.opclass.specs.declared.value.Elem.{Elem}
@@ -14,9 +12,8 @@ use Rattle.opclass.specs.declared.value.KeyVal.TheVariants.{Nil, Num, Raw, Items
 use Rattle.opclass.specs.Values.{IsElementOf, IsValueOf}
 use Rattle.tuple_data.specs.Laws.{room_of}
 use Rattle.heap_row.specs.Typed.{ElementHasAtMost}
-use Rattle.gin_entry.specs.declared.entry.Category.TheVariants.{EmptyItem, NullItem}
 use Rattle.gin_entry.specs.declared.entry.Entry.{Entry}
-use Rattle.gin_entry.specs.Entries.{entry_of, placeholder}
+use Rattle.gin_entry.specs.Entries.{entry_of}
 use Rattle.gin_entry.specs.EntrySize.{entry_size}
 use Rattle.gin_entry.proofs.Room.{entry_room}
 use Rattle.gin_pack.specs.EntryTuple.{most_size}

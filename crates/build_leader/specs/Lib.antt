@@ -32,3 +32,5 @@ pub mod Entries
 pub mod Gin
 -- which arrays may have entries that are too large
 pub mod WideEntry
+-- what holds of a GIN index, whatever the rows are
+pub mod EntryLaws

@@ -58,6 +58,7 @@
 mod block;
 mod built;
 mod columns;
+mod entry_laws;
 mod fault;
 mod gate;
 mod gin;
@@ -74,6 +75,10 @@ mod wide_entry;
 mod worker;
 
 pub use built::Built;
+pub use entry_laws::{
+    elements_lead_to_their_rows, empty_arrays_lead_to_their_rows, nulls_lead_to_their_rows,
+    postings_point_to_rows,
+};
 pub use fault::LeadFault;
 pub use gate::{Gate, NoGate};
 pub use laws::{

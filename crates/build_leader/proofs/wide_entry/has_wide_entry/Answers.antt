@@ -1,4 +1,4 @@
-use Rattle.std.proofs.Common.{◌↔◌, ◌∙◌, IfOk, IsTrue, List, [], ◌∷◌, sym, subst}
+use Rattle.std.proofs.Common.{◌↔◌, ◌∙◌, IfOk, IsTrue, [], ◌∷◌, sym, subst}
 use Rattle.std.specs.List.{AllZip}
 use Rattle.opclass.specs.Values.{IsValueOf}
 use Rattle.build_leader.specs.Entries.{HasWideEntry}

@@ -1,6 +1,3 @@
-use Rattle.std.proofs.Common.{List}
-use Rattle.opclass.specs.declared.value.Elem.{Elem}
-use Rattle.build_leader.specs.WideEntry.{HasTexts}
 use Rattle.build_leader.proofs.WideEntries.{never_wide}
 use Rattle.build_leader.proofs.wide_entry.is_wide_value.Goals as goal
 
