@@ -1,5 +1,5 @@
 -- Where the entries of a GIN index over a heap lead.
-use Rattle.std.proofs.Common.{◌≡◌, ◌↔◌, ◌⊎◌, ℕ, ◌<◌, List, [], ◌∷◌, map, refl, sym, ap, subst, ◌∙◌, inl, inr, arith}
+use Rattle.std.proofs.Common.{◌≡◌, ◌↔◌, ◌⊎◌, ℕ, ◌<◌, ◌≤◌, List, [], ◌∷◌, map, refl, sym, ap, subst, ◌∙◌, inl, inr, arith}
 use Rattle.std.specs.Prelude.{Any, Contains}
 use Rattle.std.proofs.lemmas.List.Elements.{All-contains}
 use Rattle.pg_bytes.specs.declared.row_ptr.RowPtr.{RowPtr}
@@ -22,37 +22,32 @@ use Rattle.build_leader.proofs.Apart.{Differ, heap_pointers_differ}
 
 -- ---- which entries a value has
 
--- an element's entry is none of the others that have no key
+-- the entry of an element has a key, or is that of nulls
+element_category : (element : Elem) → (entry_of element).category ≤ 1
+element_category elem.Null = omega arith
+element_category (elem.Num number) = omega arith
+element_category (elem.Raw bytes) = omega arith
+
+-- so it is none of the others that have no key
 no_element : (element : Elem) (entry : Entry) → 1 < entry.category → entry ≡ entry_of element → ⊥
-no_element elem.Null entry above same = let category = ap (λ (e : Entry). e.category) same in omega (arith, above, category)
-no_element (elem.Num number) entry above same =
-    let category = ap (λ (e : Entry). e.category) same in omega (arith, above, category)
-no_element (elem.Raw bytes) entry above same =
-    let category = ap (λ (e : Entry). e.category) same in omega (arith, above, category)
+no_element element entry above same =
+    let category = ap (λ (e : Entry). e.category) same in
+    omega (arith, above, category, element_category element)
 
 -- elements with one entry are one
 one_element : (a b : Elem) → entry_of a ≡ entry_of b → a ≡ b
-one_element elem.Null elem.Null same = refl
-one_element elem.Null (elem.Num number) same = absurd (number_apart (ap (λ (e : Entry). e.key) same))
+one_element a b same = by a b (ap (λ (e : Entry). e.key) same)
   where
-    number_apart : Nil ≡ Num number → ⊥
-    number_apart e = cc
-one_element elem.Null (elem.Raw bytes) same = absurd (bytes_apart (ap (λ (e : Entry). e.key) same))
-  where
-    bytes_apart : Nil ≡ Raw bytes → ⊥
-    bytes_apart e = cc
-one_element (elem.Num number) other same = number_is other (ap (λ (e : Entry). e.key) same)
-  where
-    number_is : (b : Elem) → Num number ≡ (entry_of b).key → elem.Num number ≡ b
-    number_is elem.Null e = cc
-    number_is (elem.Num n) e = cc
-    number_is (elem.Raw bytes) e = cc
-one_element (elem.Raw bytes) other same = bytes_are other (ap (λ (e : Entry). e.key) same)
-  where
-    bytes_are : (b : Elem) → Raw bytes ≡ (entry_of b).key → elem.Raw bytes ≡ b
-    bytes_are elem.Null e = cc
-    bytes_are (elem.Num n) e = cc
-    bytes_are (elem.Raw other) e = cc
+    by : (a b : Elem) → (entry_of a).key ≡ (entry_of b).key → a ≡ b
+    by elem.Null elem.Null key = refl
+    by elem.Null (elem.Num number) key = cc
+    by elem.Null (elem.Raw bytes) key = cc
+    by (elem.Num number) elem.Null key = cc
+    by (elem.Num number) (elem.Num other) key = cc
+    by (elem.Num number) (elem.Raw bytes) key = cc
+    by (elem.Raw bytes) elem.Null key = cc
+    by (elem.Raw bytes) (elem.Num number) key = cc
+    by (elem.Raw bytes) (elem.Raw other) key = cc
 
 element_is : (element : Elem) (value : KeyVal) → HasEntry value (entry_of element) ↔ HasElement element value
 element_is element Nil = (
@@ -99,7 +94,8 @@ empty_is (Items (element ∷ elements)) = (
 -- ---- where an entry leads
 
 -- rows with one pointer are one
-same_row : (rows : List Record) (a b : Record) → Pairs Differ rows → Contains rows a → Contains rows b → a.ptr ≡ b.ptr → a ≡ b
+same_row : (rows : List Record) (a b : Record) → Pairs Differ rows
+    → Contains rows a → Contains rows b → a.ptr ≡ b.ptr → a ≡ b
 same_row [] a b differ in_a in_b same = absurd (Contains-nil a in_a)
 same_row (row ∷ rows) a b differ in_a in_b same =
     by (Contains-cases row a rows in_a) (Contains-cases row b rows in_b)
@@ -150,11 +146,13 @@ elements_lead table spec heap rows postings row element mapped there =
 
 pub nulls_lead : NullsLeadToTheirRows
 nulls_lead table spec heap rows postings row mapped there =
-    both_ways (leads_to_row table spec heap rows postings mapped row (placeholder NullItem) there) (null_is (array_of row))
+    both_ways (leads_to_row table spec heap rows postings mapped row (placeholder NullItem) there)
+    (null_is (array_of row))
 
 pub empty_arrays_lead : EmptyArraysLeadToTheirRows
 empty_arrays_lead table spec heap rows postings row mapped there =
-    both_ways (leads_to_row table spec heap rows postings mapped row (placeholder EmptyItem) there) (empty_is (array_of row))
+    both_ways (leads_to_row table spec heap rows postings mapped row (placeholder EmptyItem) there)
+    (empty_is (array_of row))
 
 pub point_to_rows : PostingsPointToRows
 point_to_rows table spec heap rows postings entry ptr mapped has =

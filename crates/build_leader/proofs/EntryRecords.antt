@@ -59,7 +59,8 @@ use Rattle.build_leader.proofs.IndexRecords.{kinds_count}
 -- ---- what is read
 
 -- what is read of columns are values of their types
-typed_of : (columns : List Column) (most : ℕ) (numbers : List ℕ) (values : List KeyVal) → AreReadOf columns most numbers values
+typed_of : (columns : List Column) (most : ℕ) (numbers : List ℕ) (values : List KeyVal)
+    → AreReadOf columns most numbers values
     → AllZip IsValueOf
     (filter_map (λ number. option_map (λ column. column.kind) (slice_get columns (number - 1))) numbers) values
 typed_of columns most [] [] read = tt
@@ -110,7 +111,8 @@ unlike_entries : (ptr : RowPtr) (list : List Entry) → IsStrictlySortedBy entry
 unlike_entries ptr [] up = tt
 unlike_entries ptr (entry ∷ list) up = (
   All-map (Unlike (entry_record ptr entry)) (entry_record ptr) list
-      (All-weaker (λ other. entry_cmp entry other ≡ Less) (λ other. Unlike (entry_record ptr entry) (entry_record ptr other))
+      (All-weaker (λ other. entry_cmp entry other ≡ Less)
+      (λ other. Unlike (entry_record ptr entry) (entry_record ptr other))
       (λ other below same.
       let one : entry ≡ other = same-entry entry other (ap (λ pair. pair.0) same) in
       let level : entry_cmp entry other ≡ Equal =

@@ -25,7 +25,8 @@ use Rattle.build_leader.specs.Gin.{IsEntryFile}
 
 -- ---- the entries of several lists of rows
 
-pub entries_append : (rows others : List Record) → rows_entries (rows ++ others) ≡ rows_entries rows ++ rows_entries others
+pub entries_append : (rows others : List Record)
+    → rows_entries (rows ++ others) ≡ rows_entries rows ++ rows_entries others
 entries_append rows others = flat_map-append row_entries rows others
 
 pub entries_permuted : (rows others : List Record) → IsPermutation rows others
@@ -55,7 +56,7 @@ module _ {X Y : Type 0} (f : X → List Y) where
 
 -- ---- the map of rows
 
--- an entry is one of a value's exactly where the record of it is
+-- the record of an entry of a row says that the row's value has it, and where the row is
 entry_of_record : (value : KeyVal) (ptr : RowPtr) (row : Record) (entry : Entry) → row.keys ≡ columns_of entry
     → Contains (map (entry_record ptr) (entries value)) row → HasEntry value entry × (row.ptr ≡ ptr)
 entry_of_record value ptr row entry keys there =
@@ -91,7 +92,8 @@ module _ (rows records : List Record) (same : IsPermutation (rows_entries rows) 
       (flat_map_has row_entries rows row.1 (entry_record row.1.ptr entry) (row.0, row.2, row.3) one))
       (refl, pointer)
 
-  pub map_of_rows : (postings : List Posting) → IsMapOf (Leads records) postings → IsGinMap (map array_row rows) postings
+  pub map_of_rows : (postings : List Posting) → IsMapOf (Leads records) postings
+      → IsGinMap (map array_row rows) postings
   map_of_rows postings map_is = record {
     ascending = map_is.ascending;
     lists = map_is.lists;
@@ -102,7 +104,8 @@ module _ (rows records : List Record) (same : IsPermutation (rows_entries rows) 
   }
 
   -- the file of the entries of rows is the GIN index of the rows
-  pub is_gin_index : (kinds : List ColType) (file : List ℕ) → IsEntryFile kinds records file → IsGinIndexOf kinds rows file
+  pub is_gin_index : (kinds : List ColType) (file : List ℕ) → IsEntryFile kinds records file
+      → IsGinIndexOf kinds rows file
   is_gin_index kinds file is = record {
     kind = is.kind;
     one = is.one;

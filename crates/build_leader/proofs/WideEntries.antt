@@ -95,7 +95,8 @@ module _ (kind : ColType) where
     (λ never. absurd (false_never never)),
     (λ some.
         let its =
-        All-contains (λ element. entry_size kind (entry_of element) ≤ most_size) elements some.1 small (some.0, some.2, some.3) in
+        All-contains (λ element. entry_size kind (entry_of element) ≤ most_size) elements some.1 small
+        (some.0, some.2, some.3) in
         absurd (omega (arith, its, some.4))),
   )
 

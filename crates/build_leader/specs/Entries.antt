@@ -36,7 +36,8 @@ HasWideEntry (kind ∷ []) (value ∷ []) =
     (entry : Entry) × HasEntry value entry × (most_size < entry_size kind entry)
 HasWideEntry kinds values = ⊥
 
--- A file is the GIN index of rows: it is read as the map from their entries to their pointers, and built as a GIN index is.
+-- A file is the GIN index of rows: it is read as the map from their entries to their pointers, and built as a GIN index
+-- is.
 pub record IsGinIndexOf (kinds : List ColType) (rows : List Record) (file : List ℕ) : Type 0 where
   pub kind : ColType
   pub one : kinds ≡ kind ∷ []

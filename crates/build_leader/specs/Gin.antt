@@ -8,8 +8,8 @@ use Rattle.shared_tape.specs.declared.stored.Record.{Record}
 use Rattle.run_merge.specs.Merging.{Merging}
 use Rattle.run_merge.specs.Sorted.{AreApart}
 
--- One file has fewer records than this: the packer numbers no more. A heap of one segment has fewer, since each entry of
--- a row is at least four of its 2^30 bytes, but no contract rests on that.
+-- One file has fewer records than this: the packer numbers no more. A heap of one segment has fewer, since each entry
+-- of a row takes at least four of its 2^30 bytes, but no contract rests on that.
 abbrev pub most_records : ℕ
 most_records = 2 ^ 30
 

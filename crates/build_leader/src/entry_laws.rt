@@ -2,8 +2,8 @@
 
 ghost use Rattle.build_leader.specs.EntryLaws.{ElementsLeadToTheirRows, EmptyArraysLeadToTheirRows, NullsLeadToTheirRows, PostingsPointToRows};
 
-/// In the map that a GIN index is, an element of a row's array leads to that row, and to no row whose
-/// array lacks it (`ginarrayextract` of `ginarrayproc.c`).
+/// In the map that a GIN index is, an element of a row's array leads to that row, and to no row
+/// whose array lacks it (`ginarrayextract` of `ginarrayproc.c`).
 pub fn elements_lead_to_their_rows()
     ensures { ElementsLeadToTheirRows }
 {}

@@ -15,8 +15,8 @@ use std::alloc::{AllocError, Global};
 /// How many records a file has fewer than: the packer numbers no more.
 const MOST_RECORDS: u32 = 1 << 30;
 
-/// The file of the entries that a merge gives, of an index over one column of arrays. An error means
-/// that no memory was left, or that the file would have more than 2^30 blocks.
+/// The file of the entries that a merge gives, of an index over one column of arrays. An error
+/// means that no memory was left, or that the file would have more than 2^30 blocks.
 pub(crate) fn pack_entries(
     alloc: Global,
     kinds: &Kinds,

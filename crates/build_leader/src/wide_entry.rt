@@ -15,10 +15,12 @@ use gin_entry::{Entry, entry_size};
 use opclass::{ColType, Elem, Form, KeyList, KeyVal, Kinds, Width};
 use std::alloc::{AllocError, Global};
 
-/// The most bytes of an entry's tuple: three have room on a page (`GinMaxItemSize` of `ginblock.h`).
+/// The most bytes of an entry's tuple, of which three have room on a page (`GinMaxItemSize` of
+/// `ginblock.h`).
 const MOST_SIZE: u64 = 2712;
 
-/// A text of at most so many bytes never makes an entry too large.
+/// A text of at most so many bytes never makes an entry too large: its header, the tuple's and the
+/// zeros between take 36 bytes at most.
 const SHORT_TEXT: usize = 2676;
 
 /// Whether an entry of the one value of a row is too large. Only a long text can make it so, and no
@@ -50,7 +52,7 @@ fn is_wide_value(alloc: Global, kind: ColType, value: &KeyVal) -> Result<bool, A
     }
 }
 
-// Whether the elements of arrays of this type have as many bytes as they like.
+// Whether this is a type of arrays whose elements have no fixed width, as texts have none.
 fn has_texts(kind: ColType) -> bool
     ensures { IsTrue result ↔ HasTexts kind }
 {
