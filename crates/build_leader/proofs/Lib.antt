@@ -46,3 +46,11 @@ pub mod WideEntries
 pub mod EntryRecords
 -- where the entries of an index lead
 pub mod EntryLeads
+-- what summaries tell of a range
+pub mod Telling
+-- what workers know of ranges
+pub mod Holding
+-- how workers' ranges become those of the heap
+pub mod Uniting
+-- how a worker's ranges grow
+pub mod Tallying

@@ -34,3 +34,9 @@ pub mod Gin
 pub mod WideEntry
 -- what holds of a GIN index, whatever the rows are
 pub mod EntryLaws
+-- the ranges of a BRIN index, over rows
+pub mod Ranges
+-- how a worker's ranges grow
+pub mod Tally
+-- how the ranges of workers become those of the heap
+pub mod Uniting

@@ -56,6 +56,7 @@
 #![tactic(auto)]
 
 mod block;
+mod brin;
 mod built;
 mod columns;
 mod entry_laws;
@@ -67,6 +68,7 @@ mod leader;
 mod merging;
 mod packing;
 mod plan;
+mod ranges;
 mod row_reader;
 mod scan;
 mod scanned;
@@ -87,5 +89,6 @@ pub use laws::{
 };
 pub use leader::build;
 pub use plan::Plan;
+pub use ranges::{RangeParts, SummedRange, SummedRanges};
 pub use scan::scan_heap;
 pub use scanned::Scanned;
