@@ -1,21 +1,23 @@
 -- What workers know of ranges is what the rows of the heap come to.
-use Rattle.std.proofs.Common.{◌≡◌, ℕ, ◌+◌, ◌/◌, true, false, Bool, List, [], ◌∷◌, ◌++◌, length, map, refl, sym, ap, ap₂, ◌∙◌}
+use Rattle.std.proofs.Common.{◌≡◌, ℕ, Bool, List, [], ◌++◌, length, map, refl, sym, ap, ap₂, ◌∙◌}
 use Rattle.std.specs.Prelude.{filter, nat_eq}
 use Rattle.std.specs.List.{range_with_len}
 use Rattle.std.specs.List.Sorted.{IsPermutation}
 use Rattle.std.proofs.lemmas.List.{map-append}
 use Rattle.std.proofs.lemmas.List.Elements.{All-append, All-nil, filter-append}
+use Rattle.std.proofs.lemmas.List.Sorted.{IsPermutation-map}
+use Rattle.run_merge.proofs.Moves.{IsPermutation-filter}
 use Rattle.opclass.specs.declared.spec.IndexSpec.{IndexSpec}
-use Rattle.opclass.specs.declared.value.KeyVal.{KeyVal}
 use Rattle.brin_summary.specs.Summary.{joined, summary_of}
 use Rattle.brin_summary.proofs.Joining.{any_order, summary_of_append}
 use Rattle.shared_tape.specs.declared.stored.Record.{Record}
 use Rattle.build_leader.specs.declared.ranges.SummedRange.{SummedRange}
-use Rattle.build_leader.specs.Ranges.{HoldRanges, range_of, range_summaries, range_summary, told_of, told_ranges, values_in}
+use Rattle.build_leader.specs.Ranges.{HoldRanges, range_count, range_of, range_summaries, range_summary, told_of, told_ranges, values_in}
+use Rattle.build_leader.proofs.Lists.{map_same}
 use Rattle.build_leader.proofs.Telling.{told_both}
 
 module _ (pages_per_range range : ℕ) where
-  abbrev IsOfRange : Record → Bool
+  abbrev pub IsOfRange : Record → Bool
   IsOfRange row = nat_eq (range_of pages_per_range row) range
 
   -- the values of rows and of others
@@ -25,6 +27,12 @@ module _ (pages_per_range range : ℕ) where
   values_in-append rows others =
       ap (map (λ row. row.keys)) (filter-append IsOfRange rows others)
       ∙ map-append (λ (row : Record). row.keys) (filter IsOfRange rows) (filter IsOfRange others)
+
+  pub values_in-permuted : (rows others : List Record) → IsPermutation rows others
+      → IsPermutation (values_in pages_per_range range rows) (values_in pages_per_range range others)
+  values_in-permuted rows others moved =
+      IsPermutation-map (λ (row : Record). row.keys) (filter IsOfRange rows) (filter IsOfRange others)
+      (IsPermutation-filter IsOfRange rows others moved)
 
 -- what is held of a range is the summary of its rows
 pub held_is_summary : (spec : IndexSpec) (rows : List Record) (ranges : List SummedRange) → HoldRanges spec rows ranges
@@ -59,3 +67,23 @@ module _ (spec : IndexSpec) where
         ∙ ap₂ joined (held.told range) (more.told range)
         ∙ sym (range_summary-append rows others range);
   }
+
+  -- the order of rows doesn't matter
+  pub hold_permuted : (rows others : List Record) (ranges : List SummedRange) → IsPermutation rows others
+      → HoldRanges spec rows ranges → HoldRanges spec others ranges
+  unfolding range_summary
+  hold_permuted rows others ranges moved held = record {
+    columns = held.columns;
+    told = λ range.
+        held.told range
+        ∙ any_order (length spec.keys) (values_in spec.pages_per_range range rows) (values_in spec.pages_per_range range others)
+        (values_in-permuted spec.pages_per_range range rows others moved);
+  }
+
+  -- what is held of all ranges of a heap are their summaries
+  pub held_are_summaries : (rows : List Record) (ranges : List SummedRange) (blocks : ℕ) → HoldRanges spec rows ranges
+      → told_ranges spec blocks ranges ≡ range_summaries spec blocks rows
+  unfolding told_ranges range_summaries
+  held_are_summaries rows ranges blocks held =
+      map_same (λ range. told_of (length spec.keys) range ranges) (range_summary spec rows) held.told
+      (range_with_len 0 (range_count spec.pages_per_range blocks))

@@ -46,6 +46,8 @@ pub mod WideEntries
 pub mod EntryRecords
 -- where the entries of an index lead
 pub mod EntryLeads
+-- lists
+pub mod Lists
 -- what summaries tell of a range
 pub mod Telling
 -- what workers know of ranges
@@ -54,3 +56,7 @@ pub mod Holding
 pub mod Uniting
 -- how a worker's ranges grow
 pub mod Tallying
+-- what rows of a heap are read as
+pub mod ReadRows
+-- the tuples of ranges have room
+pub mod Fitting

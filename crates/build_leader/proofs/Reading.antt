@@ -121,7 +121,7 @@ module _ (inside : Inside) (sound : IsSoundReader inside) where
 
 -- ---- what is read has few bytes
 
-few_bytes : (value : KeyVal) → HasAtMost page_size value → room_of value ≤ 10011
+pub few_bytes : (value : KeyVal) → HasAtMost page_size value → room_of value ≤ 10011
 few_bytes Nil has = omega arith
 few_bytes (Num number) has = omega arith
 few_bytes (Raw bytes) has = omega (arith, has)
@@ -133,7 +133,7 @@ few_order_bytes (Num number) has = omega arith
 few_order_bytes (Raw bytes) has = omega (arith, has)
 few_order_bytes (Items elements) has = omega arith
 
-all_have : (columns : List Column) (numbers : List ℕ) (values : List KeyVal) → AreReadOf columns page_size numbers values
+pub all_have : (columns : List Column) (numbers : List ℕ) (values : List KeyVal) → AreReadOf columns page_size numbers values
     → All (HasAtMost page_size) values
 all_have columns [] [] read = All-nil (HasAtMost page_size)
 all_have columns [] (v ∷ vs) read = absurd read

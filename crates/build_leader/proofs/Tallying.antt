@@ -1,9 +1,8 @@
 -- A row goes into the last of a worker's ranges.
-use Rattle.std.proofs.Common.{◌≡◌, ℕ, suc, ◌+◌, ◌-◌, ◌<◌, ◌≤◌, Bool, true, false, List, [], ◌∷◌, ◌++◌, length, map, get_or, set, Some, slice_get, refl, sym, ap, ap₂, subst, ◌∙◌, arith}
-use Rattle.std.specs.Prelude.{filter, nat_eq}
-use Rattle.std.proofs.Math.Seq.{get_or-append_seam, set-append_seam}
+use Rattle.std.proofs.Common.{◌≡◌, ℕ, ◌-◌, ◌≤◌, Bool, true, false, List, [], ◌∷◌, ◌++◌, length, get_or, set, Some, slice_get, refl, sym, ap, ap₂, subst, ◌∙◌, arith}
+use Rattle.std.specs.Prelude.{nat_eq}
 use Rattle.std.proofs.lemmas.Bool.{eq-eqb, eqb-true}
-use Rattle.std.proofs.lemmas.List.{append-nil, length-append}
+use Rattle.std.proofs.lemmas.List.{append-nil}
 use Rattle.std.proofs.lemmas.List.Elements.{All-pop, All-push}
 use Rattle.std.proofs.lemmas.Option.{get_or_from_slice_get, slice_get_within}
 use Rattle.opclass.specs.declared.spec.IndexSpec.{IndexSpec}
@@ -15,6 +14,7 @@ use Rattle.build_leader.specs.declared.ranges.SummedRange.{SummedRange}
 use Rattle.build_leader.specs.Ranges.{HoldRanges, range_of, range_summary, told_of, values_in}
 use Rattle.build_leader.specs.Tally.{AreOfColumns, TakesIn, begun_range, ends_with}
 use Rattle.build_leader.proofs.Holding.{held_is_summary, range_summary-append, values_in-append}
+use Rattle.build_leader.proofs.Lists.{get_last, has_last, set_last}
 use Rattle.build_leader.proofs.Telling.{joined_has_columns, summary_has_columns, told_begun, told_other, told_own}
 
 abbrev HasColumns : ℕ → SummedRange → Type 0
@@ -57,35 +57,6 @@ hold_begun spec rows ranges columns range same held =
     })
 
 -- ---- the last range takes a row in
-
-module _ {X : Type 0} where
-  -- the last of a list
-  pub record HasLast (items : List X) : Type 0 where
-    pub front : List X
-    pub last : X
-    pub are : items ≡ front ++ last ∷ []
-
-  pub has_last : (items : List X) → 1 ≤ length items → HasLast items
-  has_last [] some = absurd (omega arith)
-  has_last (first ∷ []) some = record { front = []; last = first; are = refl }
-  has_last (first ∷ second ∷ others) some =
-      let behind = has_last (second ∷ others) (omega arith) in record {
-        front = first ∷ behind.front;
-        last = behind.last;
-        are = ap (λ (items : List X). first ∷ items) behind.are;
-      }
-
-  last_place : (front : List X) (last : X) → length (front ++ last ∷ []) - 1 ≡ length front
-  last_place front last = let both = length-append front (last ∷ []) in omega arith
-
-  pub get_last : (front : List X) (last d : X) → get_or (front ++ last ∷ []) (length (front ++ last ∷ []) - 1) d ≡ last
-  get_last front last d =
-      ap (λ (place : ℕ). get_or (front ++ last ∷ []) place d) (last_place front last) ∙ get_or-append_seam front last [] d
-
-  pub set_last : (front : List X) (last other : X)
-      → set (front ++ last ∷ []) (length (front ++ last ∷ []) - 1) other ≡ front ++ other ∷ []
-  set_last front last other =
-      ap (λ (place : ℕ). set (front ++ last ∷ []) place other) (last_place front last) ∙ set-append_seam front last [] other
 
 -- a range that is the last one
 pub ends_at : (range : ℕ) (ranges : List SummedRange) (last : SummedRange) → Some last ≡ slice_get ranges (length ranges - 1)

@@ -1,12 +1,12 @@
 -- What is told of a range goes where what is known of it stands.
-use Rattle.std.proofs.Common.{◌≡◌, ◌≢◌, ℕ, ◌+◌, ◌*◌, ◌/◌, ◌<◌, ◌≤◌, Bool, true, false, List, [], ◌∷◌, ◌++◌, length, drop, get_or, set, take, refl, sym, ap, ap₂, subst, ◌∙◌, arith}
-use Rattle.std.specs.Prelude.{All, map, nat_eq}
+use Rattle.std.proofs.Common.{◌≡◌, ◌≢◌, ℕ, ◌+◌, ◌*◌, ◌<◌, ◌≤◌, Bool, true, false, List, [], ◌∷◌, ◌++◌, length, drop, get_or, set, take, refl, sym, ap, ap₂, subst, ◌∙◌, arith}
+use Rattle.std.specs.Prelude.{All, nat_eq}
 use Rattle.std.specs.List.{flat_map, range_with_len}
 use Rattle.std.proofs.Math.Seq.{take-append_seam}
 use Rattle.std.proofs.lemmas.Bool.{eq-eqb, eqb-true, ne_eqb}
 use Rattle.std.proofs.lemmas.Grind.{flat_map-append}
 use Rattle.std.proofs.lemmas.List.{append-nil, append_assoc, get_or-set_other, get_or-set_same, length-set}
-use Rattle.std.proofs.lemmas.List.Elements.{All-cons, All-head, All-map, All-nil, All-tail}
+use Rattle.std.proofs.lemmas.List.Elements.{All-head, All-map}
 use Rattle.std.proofs.lemmas.List.FromFn.{fill_by_all, get_or-map-range_with_len, length-map-range_with_len, map-range_with_len_more}
 use Rattle.opclass.specs.declared.spec.IndexSpec.{IndexSpec}
 use Rattle.brin_summary.specs.Summary.{RangeSummary, joined, summary_of}
@@ -14,6 +14,7 @@ use Rattle.build_leader.specs.declared.ranges.SummedRange.{SummedRange}
 use Rattle.build_leader.specs.Ranges.{range_count, told_of, told_ranges}
 use Rattle.build_leader.specs.Tally.{AreOfColumns}
 use Rattle.build_leader.specs.Uniting.{AreTold, HaveColumns, told_each}
+use Rattle.build_leader.proofs.Lists.{all_behind, all_front}
 use Rattle.build_leader.proofs.Telling.{told_has_columns, told_other, told_own}
 
 module _ (columns : ℕ) (ranges : List SummedRange) (known : List RangeSummary) (told : AreTold columns ranges known) (summed : SummedRange) where
@@ -64,17 +65,6 @@ none_more columns count known are =
     ap (λ (front : List RangeSummary). front ++ summary_of columns [] ∷ []) are
     ∙ sym (map-range_with_len_more (λ range. told_of columns range []) 0 count count zero_more)
 
--- ---- one list behind the other
-
-module _ {X : Type 0} (P : X → Type 0) where
-  pub all_front : (a b : List X) → All P (a ++ b) → All P a
-  all_front [] b all = All-nil P
-  all_front (x ∷ a) b all = All-cons P x a (All-head P x (a ++ b) all) (all_front a b (All-tail P x (a ++ b) all))
-
-  pub all_behind : (a b : List X) → All P (a ++ b) → All P b
-  all_behind [] b all = all
-  all_behind (x ∷ a) b all = all_behind a b (All-tail P x (a ++ b) all)
-
 -- the part that comes next
 pub part_columns : (columns : ℕ) (before : List (List SummedRange)) (part : List SummedRange) (behind : List (List SummedRange))
     → AreOfColumns columns (flat_map (λ part. part) (before ++ part ∷ behind)) → AreOfColumns columns part
@@ -91,12 +81,6 @@ pub flat_push : (before : List (List SummedRange)) (part : List SummedRange)
 flat_push before part =
     flat_map-append (λ part. part) before (part ∷ [])
     ∙ ap (λ (ranges : List SummedRange). flat_map (λ part. part) before ++ ranges) (append-nil part)
-
--- what is told with one more behind it
-pub one_more : {X : Type 0} (all before : List X) (one : X) (behind rest : List X) → all ≡ before ++ rest → rest ≡ one ∷ behind
-    → all ≡ (before ++ one ∷ []) ++ behind
-one_more all before one behind rest are is =
-    are ∙ ap (λ items. before ++ items) is ∙ sym (append_assoc before (one ∷ []) behind)
 
 pub next_columns : (columns : ℕ) (all before rest behind : List SummedRange) (one : SummedRange) → AreOfColumns columns all
     → all ≡ before ++ rest → rest ≡ one ∷ behind → length one.summary.columns ≡ columns

@@ -1,11 +1,11 @@
-use Rattle.std.proofs.Common.{◌≡◌, ◌*◌, ◌<◌, ◌≤◌, ◌^◌, ℕ, None, List, length, sym, ap, subst, ◌∙◌, arith}
+use Rattle.std.proofs.Common.{◌≡◌, ◌<◌, ◌^◌, ℕ, None, List, length, sym, subst, ◌∙◌, arith}
 use Rattle.std.specs.Prelude.{IfErr, IfOk, OnOk}
 use Rattle.std.specs.List.{flat_map}
 use Rattle.brin_summary.specs.Answer.{IsTold, tuple_size, wide_range}
 use Rattle.brin_summary.specs.File.{brin_file}
 use Rattle.brin_summary.specs.Summary.{RangeSummary}
 use Rattle.build_leader.specs.declared.ranges.SummedRange.{SummedRange}
-use Rattle.build_leader.specs.Ranges.{range_count, told_of, told_ranges}
+use Rattle.build_leader.specs.Ranges.{range_count, told_of}
 use Rattle.build_leader.specs.Tally.{AreOfColumns}
 use Rattle.build_leader.specs.Uniting.{HaveColumns, told_each}
 use Rattle.build_leader.proofs.Uniting.{known_are, known_blocks, known_columns, told_ranges_are}

@@ -1,9 +1,9 @@
-use Rattle.std.proofs.Common.{◌≡◌, ◌∷◌, ℕ, List, length, sym, subst}
+use Rattle.std.proofs.Common.{◌≡◌, ◌∷◌, ℕ, List, sym, subst}
 use Rattle.std.specs.Vec.Iter.{into_iter_items}
-use Rattle.brin_summary.specs.Summary.{RangeSummary}
 use Rattle.build_leader.specs.declared.ranges.SummedRange.{SummedRange}
 use Rattle.build_leader.specs.Uniting.{HaveColumns}
-use Rattle.build_leader.proofs.Uniting.{next_columns, one_more, told_next}
+use Rattle.build_leader.proofs.Lists.{one_more}
+use Rattle.build_leader.proofs.Uniting.{next_columns, told_next}
 use Rattle.build_leader.proofs.brin.unite_part.Goals as goal
 
 pub unite-requires : goal.unite-requires

@@ -1,5 +1,4 @@
-use Rattle.std.proofs.Common.{◌≡◌, ◌∷◌, ◌++◌, [], ℕ, List, length, refl, sym, ap, subst, ◌∙◌, arith, rules}
-use Rattle.std.specs.Prelude.{vec_len}
+use Rattle.std.proofs.Common.{◌≡◌, ◌∷◌, ◌++◌, [], ℕ, List, length, sym, ap, subst, ◌∙◌, arith, rules}
 use Rattle.std.specs.List.{flat_map}
 use Rattle.std.specs.Vec.Iter.{into_iter_items}
 use Rattle.std.proofs.lemmas.List.Elements.{All-nil}
@@ -9,7 +8,8 @@ use Rattle.build_leader.specs.declared.ranges.SummedRange.{SummedRange}
 use Rattle.build_leader.specs.Ranges.{told_of}
 use Rattle.build_leader.specs.Tally.{AreOfColumns}
 use Rattle.build_leader.specs.Uniting.{AreTold, HaveColumns, told_each}
-use Rattle.build_leader.proofs.Uniting.{each_has_columns, flat_push, one_more, part_columns, whole}
+use Rattle.build_leader.proofs.Lists.{one_more}
+use Rattle.build_leader.proofs.Uniting.{each_has_columns, flat_push, part_columns, whole}
 use Rattle.build_leader.proofs.brin.united.Goals as goal
 
 pub loop-part-init : goal.loop-part-init

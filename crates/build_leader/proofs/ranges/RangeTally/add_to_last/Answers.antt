@@ -1,4 +1,4 @@
-use Rattle.std.proofs.Common.{◌≡◌, ◌-◌, ◌≤◌, ℕ, List, length, get_or, set, sym, ap, subst, ◌∙◌, arith}
+use Rattle.std.proofs.Common.{◌≡◌, ◌-◌, ℕ, List, length, get_or, set, sym, ap, subst, ◌∙◌, arith}
 use Rattle.std.specs.Prelude.{vec_len}
 use Rattle.std.proofs.lemmas.Result.{on_ok_weaker}
 use Rattle.build_leader.specs.declared.ranges.SummedRange.{SummedRange}

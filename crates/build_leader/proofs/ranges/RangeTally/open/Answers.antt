@@ -1,6 +1,5 @@
-use Rattle.std.proofs.Common.{◌≡◌, ◌++◌, [], ◌∷◌, List, sym, ap, subst, ◌∙◌}
+use Rattle.std.proofs.Common.{◌≡◌, ◌++◌, [], ◌∷◌, sym, ap, subst, ◌∙◌}
 use Rattle.brin_summary.specs.Summary.{RangeSummary}
-use Rattle.build_leader.specs.declared.ranges.SummedRange.{SummedRange}
 use Rattle.build_leader.specs.Ranges.{HoldRanges}
 use Rattle.build_leader.specs.Tally.{AreOfColumns, begun_range, ends_with}
 use Rattle.build_leader.proofs.Tallying.{begun_columns, ends_begun, hold_begun}
