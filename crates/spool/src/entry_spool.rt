@@ -124,8 +124,8 @@ impl EntrySpool {
     }
 }
 
-// How entries are sorted: by category and then by key, both ascending with nulls last.
-fn order_of_entries(alloc: Global) -> Result<SortSpec, AllocError>
+/// How entries are sorted: by category and then by key, both ascending with nulls last.
+pub fn order_of_entries(alloc: Global) -> Result<SortSpec, AllocError>
     ensures { IfOk result (λ order. order ≡ entry_order) }
 {
     Ok(Items::from_vec(vec![in alloc; ASCENDING; 2]?))

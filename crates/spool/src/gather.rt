@@ -71,6 +71,7 @@ impl Gather {
     pub fn put(&mut self, value: &KeyVal, ptr: RowPtr) -> Result<(), AllocError>
         requires { AreStorableEntries value.now ptr }
         ensures ok { OnOk result (TakesRow self.old value.now ptr self.new) }
+        ensures run_rows { self.new.run_rows ≡ self.old.run_rows }
         ensures err { OnErr result (IsSpent self.new) }
         ensures spent { IsSpent self.old → IsErr result }
     {

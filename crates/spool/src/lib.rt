@@ -41,6 +41,7 @@ mod spool;
 #[cfg(test)]
 mod tests;
 
+pub use entry_spool::order_of_entries;
 pub use gather::Gather;
 pub use laws::column_entries_are_storable;
 pub use spool::Spool;
