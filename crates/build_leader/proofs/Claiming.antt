@@ -134,7 +134,7 @@ module _ (reader : ReaderView) (heap : List ℕ) (scan : ScanState) where
         own =
             subst (λ (s : SeatState). All (λ (c : Claim). c.worker ≡ s.worker) s.view.claims) (sym is)
             (All-push (λ (c : Claim). c.worker ≡ old.seat.worker) old.seat.view.claims claim worker.own refl);
-        order = worker.order;
+        suits = worker.suits;
         legal = legal;
         missed = missed;
       }

@@ -238,4 +238,5 @@ module _ (spec : IndexSpec) (kinds : List ColType) (order : List SortPart) (whol
               (subst (λ ptr. IsFirstClash spec told.0 ptr next.ptr) (sym clash.2) told.2),
         ),
       )
+  comes_to_fault old new packer held next (lead.RangeWide range size) is was gives none = absurd none
   comes_to_fault old new packer held next lead.Memory is was gives memory = tt

@@ -1,5 +1,5 @@
 -- What all workers of a scan come to at its end.
-use Rattle.std.proofs.Common.{◌≡◌, ℕ, zero, suc, ◌+◌, ◌<◌, ◌≤◌, Bool, true, ltb, cond, List, [], ◌∷◌, length, Some, None, Result, Ok, Err, slice_get, refl, sym, ap, subst, ◌∙◌, inl, inr, arith, sum_by}
+use Rattle.std.proofs.Common.{◌≡◌, ℕ, zero, suc, ◌+◌, ◌<◌, ◌≤◌, Bool, ltb, cond, List, [], ◌∷◌, length, Some, None, Result, Ok, Err, sym, ap, subst, ◌∙◌, inl, inr, arith}
 use Rattle.std.specs.Prelude.{Contains, IfErr}
 use Rattle.std.specs.List.{range_with_len}
 use Rattle.std.proofs.lemmas.Bool.{lt-ltb}
@@ -8,8 +8,7 @@ use Rattle.std.proofs.lemmas.List.Sorted.{length_permutation}
 use Rattle.block_claim.specs.declared.claim.Claim.{Claim}
 use Rattle.block_claim.specs.Calls.{HasWholeShare, ScanState, SeatState}
 use Rattle.block_claim.specs.Legal.{IsLegalInSomeOrder}
-use Rattle.block_claim.specs.Views.{least_of, unreported, whole_share}
-use Rattle.run_merge.specs.Sorted.{all_records}
+use Rattle.block_claim.specs.Views.{least_of, unreported}
 use Rattle.build_leader.specs.declared.fault.LeadFault.{LeadFault}
 use Rattle.build_leader.specs.declared.fault.LeadFault.TheVariants as lead
 use Rattle.build_leader.specs.declared.plan.Plan.{Plan}
@@ -20,6 +19,7 @@ use Rattle.build_leader.specs.Blocks.{block_count}
 use Rattle.build_leader.specs.Calls.{CountsRows, IsFinished, IsOpenedFor, IsPlan, IsScanFault, IsScanned}
 use Rattle.build_leader.specs.Claimed.{claimed_blocks}
 use Rattle.build_leader.specs.HeapRows.{HasSoundBlocks, IsFirstFault}
+use Rattle.build_leader.specs.Holding.{held_on}
 use Rattle.build_leader.specs.Scanning.{HasRowsOf, IsJudged, IsScanOf, KeepsLeast}
 use Rattle.build_leader.specs.Teams.{HandsOver, IsTeam, TellsFault, share_of_seats}
 use Rattle.build_leader.proofs.Counting.{permuted, times, times-range_zero, times_contains}
@@ -104,7 +104,7 @@ module _ (plan : Plan) (heap : List ℕ) (scan : ScanState) (team : Team) (end :
     ]
 
     -- and all rows were taken
-    all_rows : HasRowsOf plan.table plan.spec heap (claimed_blocks (block_count heap) claims) (all_records team.tapes) team.rows
+    all_rows : HasRowsOf plan.table plan.spec heap (claimed_blocks (block_count heap) claims) (held_on team.tapes team.ranges) team.rows
     all_rows = end.team_is.taken.rows saw_none
 
     counts : CountsRows plan heap team.rows
@@ -149,12 +149,14 @@ module _ (plan : Plan) (heap : List ℕ) (scan : ScanState) (team : Team) (end :
   pub is_scanned : (scanned : Scanned) → HandsOver team scanned → IsScanned plan heap scan scanned
   is_scanned scanned over =
       let tapes = end.team_is.tapes in
+      let ranges = end.team_is.ranges in
       let workers = end.workers in
       subst (IsScanned plan heap scan) (sym over.is)
       (record {
         seat = finished;
         sound = sound_blocks over.sound;
-        count = omega arith;
+        tapes = omega arith;
+        ranges = omega arith;
         each = end.team_is.each (saw_none over.sound);
         rows = counts over.sound;
       })
@@ -163,6 +165,7 @@ module _ (plan : Plan) (heap : List ℕ) (scan : ScanState) (team : Team) (end :
   is_scan_fault (lead.Row block item cause) told =
       first_fault (record { block = block; item = item; cause = cause }) told
   is_scan_fault (lead.Duplicate first second) told = told
+  is_scan_fault (lead.RangeWide range size) told = told
   is_scan_fault lead.Memory told = tt
 
 -- ---- the scan of a plan

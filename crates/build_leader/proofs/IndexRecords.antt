@@ -19,9 +19,10 @@ use Rattle.shared_tape.specs.declared.stored.Record.{Record}
 use Rattle.btree_item.specs.Tuple.{size_of}
 use Rattle.btree_pack.specs.Pass.Put.{AreColumnsOf}
 use Rattle.btree_pack.specs.Pass.Taken.{IsRowOf, row_of}
+use Rattle.build_leader.specs.declared.width.WidthCause.TheVariants as width
 use Rattle.build_leader.specs.Blocks.{block_count, page_of}
 use Rattle.build_leader.specs.HeapRows.{AreBlockRows, AreHeapRows, AreRowsOfBlocks, HasSoundBlocks, HasSoundItems, IsSoundBlock}
-use Rattle.build_leader.specs.IndexRow.{AreIndexRows, AreValuesOf, HasIndexValues, Wide, index_columns, index_kinds, key_columns, most_tuple, needed_of}
+use Rattle.build_leader.specs.IndexRow.{AreIndexRows, AreValuesOf, HasIndexValues, TooWide, index_columns, index_kinds, key_columns, most_tuple, needed_of}
 use Rattle.build_leader.specs.Pass.{AreRowsOf}
 
 -- ---- the columns of an index
@@ -75,7 +76,7 @@ module _ (table : Table) (spec : IndexSpec) (over : IsIndexOver table spec) wher
   values_count needed values columns picked are =
       sym (length-map picked Some) ∙ ap length (sym are) ∙ length-map columns (value_of needed values)
 
-  module _ (page : List ℕ) (sound : HasSoundItems table spec page) where
+  module _ (tree : spec.method ≡ BTree) (page : List ℕ) (sound : HasSoundItems table spec page) where
     is_row : (item : ℕ) (row : Record) → IsLive page item → HasIndexValues table spec page item row.keys row.extra
         → IsRowOf (index_kinds table spec) (length spec.keys) (row_of row)
     is_row item row live has =
@@ -89,7 +90,7 @@ module _ (table : Table) (spec : IndexSpec) (over : IsIndexOver table spec) wher
           keys_all = keys ∙ listed;
           columns = omega (arith, keys, extra, listed, both, count);
           small = elim (cases_lt most_tuple (size_of (index_kinds table spec) (row.keys ++ row.extra))) [
-            | inl wide ↦ absurd (sound item Wide (live, (row.keys, row.extra, has, wide)))
+            | inl wide ↦ absurd (sound item (TooWide width.Tuple) (live, (row.keys, row.extra, has, (tree, wide))))
             | inr fits ↦ fits
           ];
         }
@@ -108,14 +109,14 @@ module _ (table : Table) (spec : IndexSpec) (over : IsIndexOver table spec) wher
         (is_row row.item has.0 (All-head (λ (row : Row). IsLive page row.item) row rows live) has.1.2.values)
         (are_rows block rows has.1.0 (All-tail (λ (row : Row). IsLive page row.item) row rows live) has.1.3))
 
-  module _ (heap : List ℕ) where
+  module _ (tree : spec.method ≡ BTree) (heap : List ℕ) where
     abbrev SoundAt : ℕ → Type 0
     SoundAt block = IsSoundBlock table spec (page_of heap block)
 
     block_rows : (block : ℕ) (records : List Record) → SoundAt block → AreBlockRows table spec heap block records
         → AreRowsOf spec (index_kinds table spec) records
     block_rows block records sound are =
-        are_rows (page_of heap block) sound.items block are.0 records (λ k d inside. (are.1.each k d inside).0) are.2
+        are_rows tree (page_of heap block) sound.items block are.0 records (λ k d inside. (are.1.each k d inside).0) are.2
 
     blocks_rows : (blocks : List ℕ) (records : List Record) → All SoundAt blocks
         → AreRowsOfBlocks table spec heap blocks records → AreRowsOf spec (index_kinds table spec) records

@@ -6,12 +6,40 @@ pub mod SameRows
 pub mod Needed
 -- the values of its columns, out of those of the needed ones
 pub mod Picking
--- how an item is read
-pub mod Reading
--- the rows of a page go into a spool
-pub mod Rows
 -- its rows have different row pointers
 pub mod Apart
+-- the rows of a sound heap are rows of the index
+pub mod IndexRecords
+-- the entries of rows of arrays
+pub mod EntryRows
+-- rows that have an entry that is too large
+pub mod WideEntries
+-- the records of the entries of a heap's rows
+pub mod EntryRecords
+-- where the entries of an index lead
+pub mod EntryLeads
+-- how an item is read
+pub mod Reading
+-- what rows of a heap are read as
+pub mod ReadRows
+-- lists by their places
+pub mod Lists
+-- what summaries tell of a range
+pub mod Telling
+-- what workers know of ranges
+pub mod Holding
+-- how workers' ranges become those of the heap
+pub mod Uniting
+-- how a worker's ranges grow
+pub mod Tallying
+-- the tuples of ranges have room
+pub mod Fitting
+-- what workers hold
+pub mod Held
+-- a row goes into a sink
+pub mod Sinking
+-- the rows of a page go into a sink
+pub mod Rows
 -- its blocks come to one thing
 pub mod Determined
 -- neighbours tell of clashes
@@ -20,13 +48,11 @@ pub mod Neighbours
 pub mod Inserting
 -- rows on their way into a packer
 pub mod Coming
--- the rows of a sound heap are rows of the index
-pub mod IndexRecords
 -- lists that have each number as often
 pub mod Counting
 -- legal claims share out the rows
 pub mod SharedRows
--- the rows that a scan left on tapes
+-- what a scan left with the workers
 pub mod ScannedRows
 -- the parts of a merge by ranges
 pub mod Parts
@@ -38,25 +64,5 @@ pub mod Claiming
 pub mod Teaming
 -- what all of them come to at the end
 pub mod Finishing
--- the entries of rows of arrays
-pub mod EntryRows
--- rows that have an entry that is too large
-pub mod WideEntries
--- the records of the entries of a heap's rows
-pub mod EntryRecords
--- where the entries of an index lead
-pub mod EntryLeads
--- lists
-pub mod Lists
--- what summaries tell of a range
-pub mod Telling
--- what workers know of ranges
-pub mod Holding
--- how workers' ranges become those of the heap
-pub mod Uniting
--- how a worker's ranges grow
-pub mod Tallying
--- what rows of a heap are read as
-pub mod ReadRows
--- the tuples of ranges have room
-pub mod Fitting
+-- what is packed of it
+pub mod Packed

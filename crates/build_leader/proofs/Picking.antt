@@ -151,11 +151,15 @@ module _ (table : Table) (most : ℕ) where
       (keys_at needed values read ps cs others (All-tail (IsKeyOf table BTree) c cs keys))
 
   pub places_inside : (needed : List ℕ) (values : List KeyVal) → AreReadOf table.columns most needed values
-      → (places numbers : List ℕ) → AreAt needed places numbers → All (IsKeyOf table BTree) numbers
-      → All (λ place. place < length values) places
-  places_inside needed values read places numbers at keys =
-      All-weaker (HasKeyAt values) (λ place. place < length values) (λ place has. has.0) places
-      (keys_at needed values read places numbers at keys)
+      → (places numbers : List ℕ) → AreAt needed places numbers → All (λ place. place < length values) places
+  places_inside needed values read [] numbers at = All-nil (λ (place : ℕ). place < length values)
+  places_inside needed values read (p ∷ ps) [] at = cc
+  places_inside needed values read (p ∷ ps) (c ∷ cs) at =
+      let one : slice_get needed p ≡ Some c = cc in
+      let others : AreAt needed ps cs = cc in
+      let count = as_many table.columns most needed values read in
+      let below = slice_get_within needed p c one in
+      All-cons (λ (place : ℕ). place < length values) p ps (omega arith) (places_inside needed values read ps cs others)
 
   pub places_of_keys : (needed : List ℕ) (values : List KeyVal) → AreReadOf table.columns most needed values
       → (places numbers : List ℕ) → AreAt needed places numbers → All (IsKeyOf table BTree) numbers

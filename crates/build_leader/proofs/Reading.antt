@@ -1,6 +1,8 @@
 -- How an item is read, and what its record is.
-use Rattle.std.proofs.Common.{◌≡◌, ℕ, ◌+◌, ◌^◌, ◌<◌, ◌≤◌, List, [], ◌∷◌, ◌++◌, length, map, take, drop, Some, Result, Ok, Err, slice_get, refl, sym, ap, ap₂, subst, ◌∙◌, arith, All}
+use Rattle.std.proofs.Common.{◌≡◌, ◌≢◌, ℕ, ◌+◌, ◌^◌, ◌<◌, ◌≤◌, List, [], ◌∷◌, ◌++◌, length, map, take, drop, get_or, true, Some, Result, Ok, Err, slice_get, refl, sym, ap, ap₂, subst, ◌∙◌, arith, All}
 use Rattle.std.specs.Prelude.{IfSome, IsTrue}
+use Rattle.std.specs.List.{AllZip}
+use Rattle.std.proofs.lemmas.Bool.{true≢false}
 use Rattle.std.proofs.lemmas.List.{drop_at, length-append, length-drop, length-map, map-append, take-append-drop, take_at}
 use Rattle.std.proofs.lemmas.List.Elements.{All-cons, All-drop, All-nil, All-same, All-take, All-weaker}
 use Rattle.std.proofs.lemmas.List.Kept.{AllPairs-from_increasing}
@@ -15,7 +17,11 @@ use Rattle.opclass.specs.declared.table.Column.{Column}
 use Rattle.opclass.specs.declared.table.Table.{Table}
 use Rattle.opclass.specs.declared.types.ColType.{ColType}
 use Rattle.opclass.specs.declared.types.Method.{Method}
-use Rattle.opclass.specs.declared.types.Method.TheVariants.{BTree}
+use Rattle.opclass.specs.declared.types.KeyUse.{KeyUse}
+use Rattle.opclass.specs.declared.types.KeyUse.TheVariants as key
+use Rattle.opclass.specs.declared.types.Method.TheVariants as method
+use Rattle.opclass.specs.Types.{facts_of, takes_key}
+use Rattle.opclass.specs.Values.{IsValueOf}
 use Rattle.opclass.specs.declared.value.KeyVal.{KeyVal}
 use Rattle.opclass.specs.declared.value.KeyVal.TheVariants.{Nil, Num, Raw, Items}
 use Rattle.opclass.specs.Filter.{PassesFilter, value_of}
@@ -28,25 +34,68 @@ use Rattle.heap_row.specs.declared.fault.RowFault.TheVariants.{Value, Memory}
 use Rattle.heap_row.specs.Attribute.{AreColumnsOf, values_of}
 use Rattle.heap_row.specs.Fault.{IsFaultOf}
 use Rattle.heap_row.specs.Tuple.{tuple_of}
-use Rattle.heap_row.specs.Typed.{AreReadOf, HasAtMost}
+use Rattle.heap_row.specs.Typed.{AreReadOf, HasAtMost, IsReadOf}
 use Rattle.heap_row.proofs.ReadValues.{as_many}
 use Rattle.shared_tape.specs.declared.stored.Record.{Record}
 use Rattle.shared_tape.specs.Laws.{value_room}
-use Rattle.shared_tape.specs.Stored.{IsPointer}
+use Rattle.shared_tape.specs.Stored.{IsPointer, IsStorable}
+use Rattle.spool.specs.Gathers.{AreStorableEntries}
 use Rattle.shared_tape.proofs.Lengths.{stored_short}
 use Rattle.btree_item.specs.Tuple.{size_of}
 use Rattle.btree_item.proofs.Sizes.{few_size}
 use Rattle.build_leader.specs.declared.row_reader.RowReader.TheInside.{Inside}
-use Rattle.build_leader.specs.IndexRow.{AreValuesOf, HasIndexValues, HasItemFault, IsLeftOut, ItemCause, Unread, Wide, index_columns, index_kinds, key_columns, most_tuple, needed_of, number_of_item_cause}
+use Rattle.build_leader.specs.declared.width.WidthCause.{WidthCause}
+use Rattle.build_leader.specs.Entries.{array_of}
+use Rattle.build_leader.specs.Holding.{IsTakeableBy}
+use Rattle.build_leader.specs.IndexRow.{AreTooWide, AreValuesOf, HasIndexValues, IsLeftOut, TooWide, Unread, index_columns, index_kinds, key_columns, needed_of}
 use Rattle.build_leader.specs.Outcome.{order_of_index}
-use Rattle.build_leader.specs.Reader.{AreAt, AreRead, IsBTreeOver, IsItemFault, IsReadRecord, IsSoundItem, IsSoundReader}
+use Rattle.build_leader.specs.Reader.{AreAt, AreRead, IsItemFault, IsReadRecord, IsReadable, IsSoundItem, IsSoundReader, IsWidthFault}
+use Rattle.build_leader.proofs.EntryRecords.{row_is_storable, short_values, typed_values}
 use Rattle.build_leader.proofs.Needed.{columns_are_keys, needed_ascends, needed_columns}
 use Rattle.build_leader.proofs.Picking.{Less, are_key_values, own_values, picks, places_inside, places_of_keys}
 
-tree_keys : (table : Table) (spec : IndexSpec) → IsBTreeOver table spec → All (IsKeyOf table BTree) (index_columns spec)
-tree_keys table spec tree =
-    subst (λ (method : Method). All (IsKeyOf table method) (index_columns spec)) tree.method
-    (columns_are_keys table spec tree.over)
+-- ---- the columns of an index
+
+brin_is_tree : (key_use : KeyUse) → takes_key method.Brin key_use ≡ true → takes_key method.BTree key_use ≡ true
+brin_is_tree key.Never e = absurd (true≢false (sym e))
+brin_is_tree key.BTree e = absurd (true≢false (sym e))
+brin_is_tree key.BTreeAndBrin e = refl
+brin_is_tree key.Gin e = absurd (true≢false (sym e))
+
+-- what no array is taken for, a B-tree takes
+as_tree : (table : Table) (m : Method) (number : ℕ) → m ≢ method.Gin → IsKeyOf table m number → IsKeyOf table method.BTree number
+as_tree table method.BTree number no_array is = is
+as_tree table method.Brin number no_array is =
+    record { column = is.column; above = is.above; found = is.found; taken = brin_is_tree (facts_of is.column.kind).key_use is.taken }
+as_tree table method.Gin number no_array is = absurd (no_array refl)
+
+tree_keys : (table : Table) (spec : IndexSpec) → IsReadable table spec → spec.method ≢ method.Gin
+    → All (IsKeyOf table method.BTree) (index_columns spec)
+tree_keys table spec index no_array =
+    All-weaker (IsKeyOf table spec.method) (IsKeyOf table method.BTree) (λ number. as_tree table spec.method number no_array)
+    (index_columns spec) (columns_are_keys table spec index.over)
+
+most_are_few : (m : Method) → most_columns m ≤ 32
+most_are_few method.BTree = omega arith
+most_are_few method.Brin = omega arith
+most_are_few method.Gin = omega arith
+
+module _ (table : Table) (spec : IndexSpec) where
+  pub columns_count : length (index_columns spec) ≡ length spec.keys + length spec.includes
+  columns_count =
+      length-append (key_columns spec) spec.includes
+      ∙ ap (λ (n : ℕ). n + length spec.includes) (length-map spec.keys (λ (key : KeyCol). key.column))
+
+  pub few_columns : IsReadable table spec → length spec.keys + length spec.includes ≤ 32
+  few_columns index = let most = index.over.most in let few = most_are_few spec.method in omega arith
+
+  -- several columns hold no arrays
+  no_arrays : IsReadable table spec → 2 ≤ length (index_columns spec) → spec.method ≢ method.Gin
+  no_arrays index several gin =
+      let one : length spec.keys + length spec.includes ≤ most_columns method.Gin =
+      subst (λ (m : Method). length spec.keys + length spec.includes ≤ most_columns m) gin index.over.most in
+      let count = columns_count in
+      omega (arith, several, one)
 
 -- ---- the reader's columns and values
 
@@ -66,13 +115,18 @@ module _ (inside : Inside) (sound : IsSoundReader inside) where
       → All (λ place. place < length values) inside.places.items
   are_inside most values read =
       places_inside inside.table.now most inside.needed values read inside.places.items (index_columns inside.spec.now)
-      sound.places (tree_keys inside.table.now inside.spec.now sound.tree)
+      sound.places
 
   pub are_keys : (most : ℕ) (values : List KeyVal) → AreReadOf inside.table.now.columns most inside.needed values
-      → All (λ place. IfSome (slice_get values place) IsKeyValue) inside.places.items
-  are_keys most values read =
+      → 2 ≤ length inside.places.items → All (λ place. IfSome (slice_get values place) IsKeyValue) inside.places.items
+  are_keys most values read several =
+      let places = length-map inside.places.items (slice_get inside.needed) in
+      let columns = length-map (index_columns inside.spec.now) Some in
+      let same = ap length sound.places in
       places_of_keys inside.table.now most inside.needed values read inside.places.items (index_columns inside.spec.now)
-      sound.places (tree_keys inside.table.now inside.spec.now sound.tree)
+      sound.places
+      (tree_keys inside.table.now inside.spec.now sound.index
+      (no_arrays inside.table.now inside.spec.now sound.index (omega (arith, several, places, columns, same))))
 
   module _ (page : List ℕ) (item : ℕ) where
     -- what the tuple has for these columns
@@ -133,6 +187,17 @@ few_order_bytes (Num number) has = omega arith
 few_order_bytes (Raw bytes) has = omega (arith, has)
 few_order_bytes (Items elements) has = omega arith
 
+-- the first one is read of the first column
+first_read : (columns : List Column) (numbers : List ℕ) (values : List KeyVal) → AreReadOf columns page_size numbers values
+    → (keys extra : List KeyVal) → values ≡ keys ++ extra → 0 < length keys
+    → (number : ℕ) × IsReadOf columns page_size number (get_or keys 0 Nil)
+first_read columns numbers values read [] extra are some = absurd (omega (arith, some))
+first_read columns numbers [] read (k ∷ keys) extra are some = cc
+first_read columns [] (v ∷ vs) read (k ∷ keys) extra are some = absurd read
+first_read columns (n ∷ ns) (v ∷ vs) read (k ∷ keys) extra are some =
+    let same : v ≡ k = cc in
+    (n, subst (IsReadOf columns page_size n) same read.0)
+
 pub all_have : (columns : List Column) (numbers : List ℕ) (values : List KeyVal) → AreReadOf columns page_size numbers values
     → All (HasAtMost page_size) values
 all_have columns [] [] read = All-nil (HasAtMost page_size)
@@ -164,33 +229,27 @@ module _ (table : Table) (spec : IndexSpec) (page : List ℕ) (item : ℕ) where
       let ok = out.read in
       let err = fault.1 in
       cc
-  left_is_sound out Wide fault =
+  left_is_sound out (TooWide cause) fault =
       let has = fault.1.2 in
       let same : has.values ≡ out.values = cc (has.read, out.read) in
       out.left_out (subst (PassesFilter spec.filter (needed_of table spec)) same has.kept)
 
-  module _ (tree : IsBTreeOver table spec) (picked : List KeyVal) (read : AreRead table spec page item picked) where
-    pub columns_count : length (index_columns spec) ≡ length spec.keys + length spec.includes
-    columns_count =
-        length-append (key_columns spec) spec.includes
-        ∙ ap (λ (n : ℕ). n + length spec.includes) (length-map spec.keys (λ (key : KeyCol). key.column))
-
+  module _ (index : IsReadable table spec) (picked : List KeyVal) (read : AreRead table spec page item picked) where
     pub picked_count : length picked ≡ length spec.keys + length spec.includes
-    picked_count = as_many table.columns page_size (index_columns spec) picked read.typed ∙ columns_count
+    picked_count = as_many table.columns page_size (index_columns spec) picked read.typed ∙ columns_count table spec
 
-    few_columns : length spec.keys + length spec.includes ≤ 32
-    few_columns =
-        subst (λ (method : Method). length spec.keys + length spec.includes ≤ most_columns method) tree.method tree.over.most
+    pub picked_typed : AllZip IsValueOf (index_kinds table spec) picked
+    picked_typed = typed_values table spec page_size picked read.typed
 
-    short : All (HasAtMost page_size) picked
-    short = all_have table.columns (index_columns spec) picked read.typed
+    pub short : All (HasAtMost page_size) picked
+    short = short_values table.columns page_size (index_columns spec) picked read.typed
 
     -- its size can be counted
     pub size_fits : (kinds : List ColType) → size_of kinds picked < 2 ^ 63
     size_fits kinds =
         let small = All-weaker (HasAtMost page_size) (λ value. room_of value ≤ 10011) few_bytes picked short in
         let count = picked_count in
-        let few = few_columns in
+        let few = few_columns table spec index in
         let size = few_size kinds picked (omega arith) small in
         omega arith
 
@@ -215,34 +274,36 @@ module _ (table : Table) (spec : IndexSpec) (page : List ℕ) (item : ℕ) where
           extra_are = back_same (map f (key_columns spec)) (map f spec.includes) (map Some keys) (map Some extra) len whole;
         }
 
-    -- a tuple that is too large is the item's fault
-    pub too_wide : IsLive page item → most_tuple < size_of (index_kinds table spec) picked
-        → (cause : ItemCause) × HasItemFault table spec page item cause × (12 ≡ number_of_item_cause cause)
-    too_wide live wide =
+    -- values that are too large are the item's fault
+    pub too_wide : IsLive page item → (fault : RowFault) → IsWidthFault spec (index_kinds table spec) picked fault
+        → IsItemFault table spec page item fault
+    too_wide live (Value number) wide =
         let n = length spec.keys in
         let whole : picked ≡ take n picked ++ drop n picked = sym (take-append-drop n picked) in
         let all = picked_count in
         let back = length-drop n picked in (
-          Wide,
+          TooWide wide.0,
           (
             live,
             (
               take n picked,
               drop n picked,
               halves (take n picked) (drop n picked) whole (omega arith),
-              subst (λ (values : List KeyVal). most_tuple < size_of (index_kinds table spec) values) whole wide,
+              subst (λ (values : List KeyVal). AreTooWide wide.0 spec (index_kinds table spec) values) whole wide.1,
             ),
           ),
-          refl,
+          wide.2,
         )
+    too_wide live Memory wide = tt
 
-    -- and any other has none
-    pub picked_is_sound : size_of (index_kinds table spec) picked ≤ most_tuple → IsSoundItem table spec page item
-    picked_is_sound small (Unread cause) fault =
+    -- and any others have none
+    pub picked_is_sound : ((cause : WidthCause) → AreTooWide cause spec (index_kinds table spec) picked → ⊥)
+        → IsSoundItem table spec page item
+    picked_is_sound narrow (Unread cause) fault =
         let ok = read.read in
         let err = fault.1 in
         cc
-    picked_is_sound small Wide fault =
+    picked_is_sound narrow (TooWide cause) fault =
         let keys = fault.1.0 in
         let extra = fault.1.1 in
         let has = fault.1.2 in
@@ -255,34 +316,39 @@ module _ (table : Table) (spec : IndexSpec) (page : List ℕ) (item : ℕ) where
         map-append Some keys extra ∙ ap₂ (λ a b. a ++ b) (sym has.keys_are) (sym has.extra_are)
         ∙ sym (map-append f (key_columns spec) spec.includes) ∙ f_same ∙ read.are in
         let one = some_values (keys ++ extra) picked all in
-        let wide' = subst (λ (values : List KeyVal). most_tuple < size_of (index_kinds table spec) values) one wide in
-        omega arith
+        narrow cause (subst (λ (values : List KeyVal). AreTooWide cause spec (index_kinds table spec) values) one wide)
 
-    -- a run takes the record
-    pub is_record : (keys extra : List KeyVal) (ptr : RowPtr) → picked ≡ keys ++ extra → length extra ≡ length spec.includes
-        → IsPointer ptr → IsReadRecord table spec page item ptr (record { keys = keys; extra = extra; ptr = ptr })
-    is_record keys extra ptr are count pointer =
-        let row : Record = record { keys = keys; extra = extra; ptr = ptr } in
-        let order = order_of_index spec in
-        let values = are_key_values table page_size (index_columns spec) picked read.typed (tree_keys table spec tree) in
-        let n = length keys in
-        let front : keys ≡ take n picked = sym (take_at keys extra n refl) ∙ ap (take n) (sym are) in
-        let back : extra ≡ drop n picked = sym (drop_at keys extra n refl) ∙ ap (drop n) (sym are) in
-        let all = picked_count in
-        let sum = ap length are ∙ length-append keys extra in
-        let parts : length (order_of_index spec) ≡ length spec.keys = length-map spec.keys _ in
-        let listed = length-map spec.keys (λ (key : KeyCol). key.column) in
-        let few = few_columns in
-        let rooms = All-weaker (HasAtMost page_size) (λ value. value_room value ≤ 20000) few_order_bytes picked short in
-        let key_rooms = All-same (λ value. value_room value ≤ 20000) keys (take n picked) front (All-take (λ value. value_room value ≤ 20000) n picked rooms) in
-        let extra_rooms = All-same (λ value. value_room value ≤ 20000) extra (drop n picked) back (All-drop (λ value. value_room value ≤ 20000) n picked rooms) in
-        let key_sum = sum_by-le value_room 20000 keys key_rooms in
-        let extra_sum = sum_by-le value_room 20000 extra extra_rooms in
-        let lengths = stored_short order row in
-        record {
-          values = halves keys extra are count;
-          pointer = refl;
-          storable = record {
+    -- ---- a sink takes the record
+
+    module _ (keys extra : List KeyVal) (ptr : RowPtr) (are : picked ≡ keys ++ extra) (count : length extra ≡ length spec.includes)
+        (pointer : IsPointer ptr) where
+      abbrev row : Record
+      row = record { keys = keys; extra = extra; ptr = ptr }
+
+      keys_count : length keys ≡ length spec.keys
+      keys_count =
+          let all = picked_count in
+          let sum = ap length are ∙ length-append keys extra in
+          omega arith
+
+      is_storable : spec.method ≡ method.BTree → IsStorable (order_of_index spec) row
+      is_storable tree =
+          let order = order_of_index spec in
+          let no_array : spec.method ≢ method.Gin = λ gin. cc in
+          let values = are_key_values table page_size (index_columns spec) picked read.typed (tree_keys table spec index no_array) in
+          let n = length keys in
+          let front : keys ≡ take n picked = sym (take_at keys extra n refl) ∙ ap (take n) (sym are) in
+          let back : extra ≡ drop n picked = sym (drop_at keys extra n refl) ∙ ap (drop n) (sym are) in
+          let own = keys_count in
+          let parts : length (order_of_index spec) ≡ length spec.keys = length-map spec.keys _ in
+          let few = few_columns table spec index in
+          let rooms = All-weaker (HasAtMost page_size) (λ value. value_room value ≤ 20000) few_order_bytes picked short in
+          let key_rooms = All-same (λ value. value_room value ≤ 20000) keys (take n picked) front (All-take (λ value. value_room value ≤ 20000) n picked rooms) in
+          let extra_rooms = All-same (λ value. value_room value ≤ 20000) extra (drop n picked) back (All-drop (λ value. value_room value ≤ 20000) n picked rooms) in
+          let key_sum = sum_by-le value_room 20000 keys key_rooms in
+          let extra_sum = sum_by-le value_room 20000 extra extra_rooms in
+          let lengths = stored_short order row in
+          record {
             keys = record {
               columns = omega arith;
               each = All-same IsKeyValue keys (take n picked) front (All-take IsKeyValue n picked values);
@@ -291,5 +357,24 @@ module _ (table : Table) (spec : IndexSpec) (page : List ℕ) (item : ℕ) where
             pointer = pointer;
             order_fits = omega (arith, lengths.0);
             extra_fits = omega (arith, lengths.1);
-          };
-        }
+          }
+
+      some_keys : 0 < length keys
+      some_keys = let some = index.over.some in let own = keys_count in omega arith
+
+      entries_storable : AreStorableEntries (array_of row) ptr
+      entries_storable =
+          let first = first_read table.columns (index_columns spec) picked read.typed keys extra are some_keys in
+          row_is_storable table.columns first.0 (array_of row) ptr first.1 pointer
+
+      is_takeable_by : (m : Method) → spec.method ≡ m → IsTakeableBy m spec row
+      is_takeable_by method.BTree is = is_storable is
+      is_takeable_by method.Brin is = keys_count
+      is_takeable_by method.Gin is = (some_keys, entries_storable)
+
+      pub is_record : IsReadRecord table spec page item ptr row
+      is_record = record {
+        values = halves keys extra are count;
+        pointer = refl;
+        takeable = is_takeable_by spec.method refl;
+      }

@@ -1,27 +1,31 @@
--- The rows of a page go into a spool, one by one, and the least fault of its items.
+-- The rows of a page go into a sink, one by one, and the least fault of its items.
 use Rattle.std.proofs.Common.{◌≡◌, ℕ, ◌+◌, ◌<◌, ◌≤◌, Bool, true, false, List, [], ◌∷◌, ◌++◌, length, take, get_or, Option, slice_get, refl, sym, ap, ap₂, subst, ◌∙◌, inl, inr, arith, All}
-use Rattle.std.specs.List.Sorted.{IsPermutation}
 use Rattle.std.specs.Option.{IsSomeAnd}
 use Rattle.std.proofs.lemmas.Bool.{cases_lt}
-use Rattle.std.proofs.lemmas.List.{append-nil, append_assoc, get_or-take, get_or_default, length-append, length-take, take_all, take_more}
+use Rattle.std.proofs.lemmas.List.{append-nil, get_or-take, get_or_default, length-append, length-take, take_all, take_more}
 use Rattle.std.proofs.lemmas.List.Elements.{All-more, All-same}
-use Rattle.std.proofs.lemmas.List.Sorted.{IsPermutation-append_left, IsPermutation-refl, IsPermutation-trans}
 use Rattle.std.proofs.lemmas.Option.{slice_get-get_or}
 use Rattle.opclass.specs.declared.spec.IndexSpec.{IndexSpec}
 use Rattle.opclass.specs.declared.table.Table.{Table}
+use Rattle.opclass.specs.declared.types.ColType.{ColType}
+use Rattle.opclass.specs.declared.value.KeyVal.{KeyVal}
 use Rattle.heap_page.specs.Fault.{IsSoundPage}
 use Rattle.hot_chain.specs.Roots.{AreRows, HasSoundChains, IsLive, Row}
 use Rattle.heap_row.specs.declared.fault.RowFault.TheVariants.{Value}
 use Rattle.shared_tape.specs.declared.stored.Record.{Record}
-use Rattle.spool.specs.Spools.{SpoolView}
+use Rattle.build_leader.specs.declared.sink.Sink.{Sink}
+use Rattle.build_leader.specs.Holding.{TakesInto}
+use Rattle.build_leader.proofs.Held.{takes_both, takes_none}
 use Rattle.build_leader.specs.HeapRows.{HasSoundItems, IsBlockFault, OfItems}
-use Rattle.build_leader.specs.IndexRow.{AreIndexRows, HasItemFault, ItemCause, Unread, Wide, number_of_item_cause}
+use Rattle.build_leader.specs.declared.width.WidthCause.{WidthCause}
+use Rattle.build_leader.specs.declared.width.WidthCause.TheVariants as width
+use Rattle.build_leader.specs.IndexRow.{AreIndexRows, AreTooWide, HasItemFault, ItemCause, TooWide, Unread, index_kinds, number_of_item_cause, number_of_width_cause}
 use Rattle.build_leader.specs.Reader.{IsItemFault, IsSoundItem}
 use Rattle.build_leader.specs.declared.block.BlockError.{BlockError}
 use Rattle.build_leader.specs.declared.block.BlockError.TheVariants as error
 use Rattle.build_leader.specs.Scanning.{IsPageError, IsRowError, TakesRow, TakesRows}
 
--- ---- rows that go into a spool
+-- ---- rows that go into a sink
 
 module _ (table : Table) (spec : IndexSpec) (page : List ℕ) (block : ℕ) where
   index_rows_push : (rows : List Row) (row : Row) (records : List Record) → AreIndexRows table spec page block rows records
@@ -35,15 +39,10 @@ module _ (table : Table) (spec : IndexSpec) (page : List ℕ) (block : ℕ) wher
       inr (has.0, (has.1.0 ++ last, ap (λ front. front ++ last) has.1.1, has.1.2, index_rows_push rows row has.1.0 has.1.3 last is))
 
   -- none at the start
-  pub takes_none : (rows : List Row) (spool : SpoolView) → TakesRows table spec page block (take 0 rows) spool 0 spool
-  takes_none rows spool = record {
-    records = [];
-    are = refl;
-    counted = refl;
-    took = subst (λ (all : List Record). IsPermutation all spool.records) (sym (append-nil spool.records)) (IsPermutation-refl spool.records);
-  }
+  pub none_taken : (rows : List Row) (sink : Sink) → TakesRows table spec page block (take 0 rows) sink 0 sink
+  none_taken rows sink = record { records = []; are = refl; counted = refl; took = takes_none spec sink }
 
-  takes_push : (rows : List Row) (row : Row) (old mid new : SpoolView) (count : ℕ) (put : Bool)
+  takes_push : (rows : List Row) (row : Row) (old mid new : Sink) (count : ℕ) (put : Bool)
       → TakesRows table spec page block rows old count mid → TakesRow table spec page block row mid put new
       → TakesRows table spec page block (rows ++ row ∷ []) old (elim put [ true ↦ count + 1 | false ↦ count ]) new
   takes_push rows row old mid new count false before step = record {
@@ -51,8 +50,8 @@ module _ (table : Table) (spec : IndexSpec) (page : List ℕ) (block : ℕ) wher
     are = index_rows_push rows row before.records before.are [] (inl (step.0, refl));
     counted = before.counted ∙ ap length (sym (append-nil before.records));
     took =
-        subst (λ (all : List Record). IsPermutation (old.records ++ (before.records ++ [])) all) (ap (λ (s : SpoolView). s.records) (sym step.1))
-        (subst (λ (all : List Record). IsPermutation (old.records ++ all) mid.records) (sym (append-nil before.records)) before.took);
+        subst (λ (sink : Sink). TakesInto spec old (before.records ++ []) sink) (sym step.1)
+        (subst (λ (all : List Record). TakesInto spec old all mid) (sym (append-nil before.records)) before.took);
   }
   takes_push rows row old mid new count true before step =
       let first = step.0 in
@@ -62,10 +61,7 @@ module _ (table : Table) (spec : IndexSpec) (page : List ℕ) (block : ℕ) wher
         records = before.records ++ first ∷ [];
         are = index_rows_push rows row before.records before.are (first ∷ []) (inr (first, ([], refl, step.1, refl)));
         counted = omega arith;
-        took =
-            subst (λ (all : List Record). IsPermutation all new.records) (append_assoc old.records before.records (first ∷ []))
-            (IsPermutation-trans ((old.records ++ before.records) ++ first ∷ []) (mid.records ++ first ∷ []) new.records
-            (IsPermutation-append_left (first ∷ []) (old.records ++ before.records) mid.records before.took) step.2.records);
+        took = takes_both spec old mid new before.records (first ∷ []) before.took step.2;
       }
 
   -- the row with this item and this root
@@ -88,7 +84,7 @@ module _ (table : Table) (spec : IndexSpec) (page : List ℕ) (block : ℕ) wher
       let P : Option Row → Type 0 = λ o. IsSomeAnd o (λ row. row.item ≡ item) in
       subst (λ (n : ℕ). IsLive page n) (subst P there one) (are.each i no_row inside).0
 
-  pub takes_more : (rows : List Row) (i item root : ℕ) (old mid new : SpoolView) (count : ℕ) (put : Bool) → i < length rows
+  pub takes_more : (rows : List Row) (i item root : ℕ) (old mid new : Sink) (count : ℕ) (put : Bool) → i < length rows
       → IsSomeAnd (slice_get rows i) (λ (row : Row). row.item ≡ item) → IsSomeAnd (slice_get rows i) (λ (row : Row). row.root ≡ root)
       → TakesRows table spec page block (take i rows) old count mid
       → TakesRow table spec page block (record { item = item; root = root }) mid put new
@@ -118,7 +114,7 @@ module _ (table : Table) (spec : IndexSpec) (page : List ℕ) where
 
   live_fault : (item : ℕ) (cause : ItemCause) → HasItemFault table spec page item cause → IsLive page item
   live_fault item (Unread cause) fault = fault.0
-  live_fault item Wide fault = fault.0
+  live_fault item (TooWide cause) fault = fault.0
 
   pub all_sound : (rows : List Row) (i : ℕ) → AreRows page rows → length rows ≤ i → AreSoundRows (take i rows)
       → HasSoundItems table spec page
@@ -129,6 +125,20 @@ module _ (table : Table) (spec : IndexSpec) (page : List ℕ) where
       let R : Row → Type 0 = λ row. IsSoundItem table spec page row.item in
       subst S place.4 (subst R place.3 (whole place.0 place.1 place.2)) cause fault
 
+  -- an index asks for one width
+  one_width : (kinds others : List ColType) (values more : List KeyVal) (a b : WidthCause) → AreTooWide a spec kinds values
+      → AreTooWide b spec others more → number_of_width_cause a ≡ number_of_width_cause b
+  one_width kinds others values more width.Tuple width.Tuple x y = refl
+  one_width kinds others values more width.Tuple width.Entry x y =
+      let tree = x.0 in
+      let gin = y.0 in
+      cc
+  one_width kinds others values more width.Entry width.Tuple x y =
+      let gin = x.0 in
+      let tree = y.0 in
+      cc
+  one_width kinds others values more width.Entry width.Entry x y = refl
+
   -- an item has one cause
   one_cause : (item : ℕ) (a b : ItemCause) → HasItemFault table spec page item a → HasItemFault table spec page item b
       → number_of_item_cause a ≡ number_of_item_cause b
@@ -137,15 +147,17 @@ module _ (table : Table) (spec : IndexSpec) (page : List ℕ) where
       let other = y.1 in
       let same : a ≡ b = cc in
       ap (λ cause. number_of_item_cause (Unread cause)) same
-  one_cause item (Unread a) Wide x y =
+  one_cause item (Unread a) (TooWide b) x y =
       let err = x.1 in
       let ok = y.1.2.read in
       cc
-  one_cause item Wide (Unread b) x y =
+  one_cause item (TooWide a) (Unread b) x y =
       let err = y.1 in
       let ok = x.1.2.read in
       cc
-  one_cause item Wide Wide x y = refl
+  one_cause item (TooWide a) (TooWide b) x y =
+      let kinds = index_kinds table spec in
+      one_width kinds kinds (x.1.0 ++ x.1.1) (y.1.0 ++ y.1.1) a b x.1.3 y.1.3
 
   -- the first row with a fault has the least
   pub first_item_fault : (rows : List Row) (i item number : ℕ) → IsSoundPage page (length table.columns) → HasSoundChains page

@@ -1,9 +1,9 @@
 -- A row goes into the last of a worker's ranges.
-use Rattle.std.proofs.Common.{◌≡◌, ℕ, ◌-◌, ◌≤◌, Bool, true, false, List, [], ◌∷◌, ◌++◌, length, get_or, set, Some, slice_get, refl, sym, ap, ap₂, subst, ◌∙◌, arith}
-use Rattle.std.specs.Prelude.{nat_eq}
+use Rattle.std.proofs.Common.{◌≡◌, ℕ, ◌-◌, ◌<◌, ◌≤◌, Bool, true, false, Result, Ok, Err, List, [], ◌∷◌, ◌++◌, length, get_or, set, Some, slice_get, refl, sym, ap, ap₂, subst, ◌∙◌, arith}
+use Rattle.std.specs.Prelude.{OnErr, OnOk, nat_eq}
 use Rattle.std.proofs.lemmas.Bool.{eq-eqb, eqb-true}
 use Rattle.std.proofs.lemmas.List.{append-nil}
-use Rattle.std.proofs.lemmas.List.Elements.{All-pop, All-push}
+use Rattle.std.proofs.lemmas.List.Elements.{All-pop, All-push, All-set}
 use Rattle.std.proofs.lemmas.Option.{get_or_from_slice_get, slice_get_within}
 use Rattle.opclass.specs.declared.spec.IndexSpec.{IndexSpec}
 use Rattle.opclass.specs.declared.value.KeyVal.{KeyVal}
@@ -55,6 +55,26 @@ hold_begun spec rows ranges columns range same held =
           (held_is_summary spec rows ranges held other)
           ∙ held.told other;
     })
+
+-- ---- a range in the place of another
+
+-- a summary that took a row in has as many columns as before, and so has one that didn't
+pub added_columns : {T E : Type 0} (keys : List KeyVal) (old new : RangeSummary) (result : Result T E)
+    → OnOk result (new ≡ joined old (summary_of (length keys) (keys ∷ []))) → OnErr result (new ≡ old)
+    → length old.columns ≡ length keys → length new.columns ≡ length keys
+added_columns keys old new (Ok x) ok err is =
+    ap (λ (s : RangeSummary). length s.columns) ok
+    ∙ joined_has_columns (length keys) old (summary_of (length keys) (keys ∷ [])) is
+    (summary_has_columns (length keys) (keys ∷ []))
+added_columns keys old new (Err e) ok err is = ap (λ (s : RangeSummary). length s.columns) err ∙ is
+
+pub set_alike : (columns : ℕ) (ranges : List SummedRange) (place : ℕ) (last : SummedRange) (summary : RangeSummary)
+    → place < length ranges → last ≡ get_or ranges place last → AreOfColumns columns ranges
+    → (length last.summary.columns ≡ columns → length summary.columns ≡ columns)
+    → AreOfColumns columns (set ranges place (record { range = last.range; summary = summary }))
+set_alike columns ranges place last summary inside is all same =
+    All-set (HasColumns columns) ranges place (record { range = last.range; summary = summary })
+    (same (ap (λ (one : SummedRange). length one.summary.columns) is ∙ all place last inside)) all
 
 -- ---- the last range takes a row in
 

@@ -1,19 +1,16 @@
 -- What workers have together, when one's scan ends and when two teams become one.
-use Rattle.std.proofs.Common.{◌≡◌, ◌≢◌, ℕ, zero, suc, ◌+◌, ◌-◌, ◌*◌, ◌^◌, ◌<◌, ◌≤◌, Bool, true, false, eqb, ltb, min, cond, List, [], ◌∷◌, ◌++◌, length, Option, Some, None, Result, Ok, Err, slice_get, refl, sym, ap, subst, ◌∙◌, inl, inr, arith, All, AllPairs}
-use Rattle.std.specs.Prelude.{Contains, IfOk}
+use Rattle.std.proofs.Common.{◌≡◌, ◌≢◌, ℕ, zero, suc, ◌+◌, ◌-◌, ◌<◌, ◌≤◌, Bool, true, false, eqb, ltb, cond, List, [], ◌∷◌, ◌++◌, length, Option, Some, None, Result, Ok, Err, slice_get, refl, sym, ap, ap₂, subst, ◌∙◌, inl, inr, arith, All}
+use Rattle.std.specs.Prelude.{IfOk}
 use Rattle.std.specs.declared.alloc.AllocError.{AllocError}
 use Rattle.std.specs.List.{flat_map}
-use Rattle.std.specs.List.Sorted.{IsPermutation}
 use Rattle.std.proofs.lemmas.Bool.{cases_lt, false≢true, lt-ltb, le-ltb}
 use Rattle.std.proofs.lemmas.List.{append-nil, append_assoc, length-append}
 use Rattle.std.proofs.lemmas.List.Elements.{All-append, All-head, All-nil, All-tail, All-weaker, Contains-append_right, filter-append}
 use Rattle.std.proofs.lemmas.List.Kept.{AllPairs-cons}
-use Rattle.std.proofs.lemmas.List.Sorted.{IsPermutation-append, IsPermutation-refl, IsPermutation-trans}
 use Rattle.std.proofs.lemmas.Option.{slice_get_within}
-use Rattle.opclass.specs.declared.spec.SortPart.{SortPart}
 use Rattle.block_claim.specs.declared.claim.Claim.{Claim}
 use Rattle.block_claim.specs.declared.view.View.{View}
-use Rattle.block_claim.specs.Calls.{ClaimsAreLegal, HasWholeShare, IsFresh, IsSeatOf, NoReportIsMissed, ScanState, SeatState, is_done, ramp_of_seat, with_view}
+use Rattle.block_claim.specs.Calls.{ClaimsAreLegal, IsFresh, IsSeatOf, NoReportIsMissed, ScanState, SeatState, is_done, ramp_of_seat}
 use Rattle.block_claim.specs.Legal.{StandsWorkerByWorker}
 use Rattle.block_claim.specs.Ramp.{Ramp, claims_by, ramp_of}
 use Rattle.block_claim.specs.Views.{joined, least_of, unreported}
@@ -21,30 +18,33 @@ use Rattle.block_claim.proofs.Floors.{least_append}
 use Rattle.block_claim.proofs.Ramps.{claims_all_by, claims_none_by}
 use Rattle.shared_tape.specs.declared.stored.Record.{Record}
 use Rattle.shared_tape.specs.Runs.{RunView, records_of}
-use Rattle.spool.specs.Spools.{AreBoundedRuns}
 use Rattle.run_merge.specs.Sorted.{all_records}
 use Rattle.build_leader.specs.declared.plan.Plan.{Plan}
+use Rattle.build_leader.specs.declared.ranges.SummedRange.{SummedRange}
+use Rattle.build_leader.specs.declared.sink.Sink.{Sink}
 use Rattle.build_leader.specs.declared.team.Team.{Team}
 use Rattle.build_leader.specs.declared.worker.BlockFault.{BlockFault}
 use Rattle.build_leader.specs.declared.worker.Share.{Share}
-use Rattle.build_leader.specs.Blocks.{block_count, page_of}
-use Rattle.build_leader.specs.Calls.{AreTapesFrom, IsTapeOf}
+use Rattle.build_leader.specs.Blocks.{block_count}
+use Rattle.build_leader.specs.Calls.{ArePartsFrom, IsPartOf}
 use Rattle.build_leader.specs.Claimed.{claimed_blocks, blocks_of_claim}
-use Rattle.build_leader.specs.HeapRows.{AreRowsOfBlocks, IsBlockFault}
-use Rattle.build_leader.specs.Outcome.{order_of_index}
+use Rattle.build_leader.specs.HeapRows.{AreRowsOfBlocks}
+use Rattle.build_leader.specs.Holding.{Held, HoldRows, IsSinkOf, Suits, held_by, held_on, held_together}
 use Rattle.build_leader.specs.Reader.{ReaderView}
-use Rattle.build_leader.specs.Scanning.{HasRowsOf, HasTaken, IsBetweenClaims, IsJudged, IsSameWorker, IsScanOf, IsTakenOf, KeepsLeast, Taken, begun_with}
+use Rattle.build_leader.specs.Scanning.{HasRowsOf, HasTaken, IsBetweenClaims, IsJudged, IsScanOf, IsTakenOf, KeepsLeast, Taken, begun_with}
 use Rattle.build_leader.specs.Teams.{AreClaimsOfWorkers, AreFreshSeats, IsAlone, IsTeam, joined_team, lesser_fault, reader_of, taken_by_team}
 use Rattle.build_leader.proofs.Coming.{get-left, get-right}
+use Rattle.build_leader.proofs.Held.{hold_moved, hold_none, hold_together, nothing_held}
 use Rattle.build_leader.proofs.SharedRows.{rows_append}
 use Rattle.build_leader.proofs.Working.{judged_still}
 
 -- ---- what a worker begins with
 
-pub begun : (reader : ReaderView) (heap : List ℕ) (scan : ScanState) (worker : ℕ) (seat : SeatState) (run_rows : ℕ)
-    → IsFresh scan worker seat → IsBetweenClaims reader heap scan (begun_with seat run_rows (order_of_index reader.spec))
-begun reader heap scan worker seat run_rows fresh =
-    let share : Share = begun_with seat run_rows (order_of_index reader.spec) in
+pub begun : (reader : ReaderView) (heap : List ℕ) (scan : ScanState) (worker : ℕ) (seat : SeatState) (sink : Sink)
+    → IsFresh scan worker seat → Suits reader.spec sink → held_by sink ≡ nothing_held
+    → IsBetweenClaims reader heap scan (begun_with seat sink)
+begun reader heap scan worker seat sink fresh suits empty =
+    let share : Share = begun_with seat sink in
     let least = ap least_of fresh.reports in
     let seen = fresh.seen in
     let none = ap length fresh.claims in
@@ -52,7 +52,7 @@ begun reader heap scan worker seat run_rows fresh =
       worker = record {
         of_scan = fresh.of_scan;
         own = subst (λ (claims : List Claim). All (λ (c : Claim). c.worker ≡ seat.worker) claims) (sym fresh.claims) (All-nil (λ (c : Claim). c.worker ≡ seat.worker));
-        order = refl;
+        suits = suits;
         legal = λ whole done.
             let going = ap (λ (claims : List Claim). (ramp_of seat.view.blocks (claims_by seat.worker claims)).done) fresh.claims in
             absurd (false≢true (sym going ∙ done));
@@ -64,7 +64,12 @@ begun reader heap scan worker seat run_rows fresh =
             judged = All-nil (IsJudged reader.table reader.spec heap seat.view);
             falls = omega arith;
             kept = fresh.reports;
-            rows = λ none. record { rows = []; are = refl; same = IsPermutation-refl []; counted = refl };
+            rows = λ none. record {
+              rows = [];
+              are = refl;
+              hold = subst (HoldRows reader.spec []) (sym empty) (hold_none reader.spec);
+              counted = refl;
+            };
           });
       few = omega arith;
       few_rows = omega arith;
@@ -78,18 +83,20 @@ all_one_worker worker claims own = λ i j d less inside.
     let second = own j d inside in
     omega arith
 
-one_tape : (P : ℕ → List RunView → Type 0) (first : ℕ) (tape : List RunView) → P first tape → (place : ℕ) (other : List RunView)
-    → slice_get (tape ∷ []) place ≡ Some other → P (first + place) other
-one_tape P first tape is zero other at =
+one_part : (P : ℕ → List RunView → List SummedRange → Type 0) (first : ℕ) (tape : List RunView) (ranges : List SummedRange)
+    → P first tape ranges → (place : ℕ) (other : List RunView) (others : List SummedRange) → slice_get (tape ∷ []) place ≡ Some other
+    → slice_get (ranges ∷ []) place ≡ Some others → P (first + place) other others
+one_part P first tape ranges is zero other others at beside =
     let same : tape ≡ other = cc in
+    let same_ranges : ranges ≡ others = cc in
     let e : first ≡ first + 0 = omega arith in
-    subst (λ (n : ℕ). P n other) e (subst (P first) same is)
-one_tape P first tape is (suc place) other at = cc
+    subst (λ (n : ℕ). P n other others) e (subst (P first other) same_ranges (subst (λ (t : List RunView). P first t ranges) same is))
+one_part P first tape ranges is (suc place) other others at beside = cc
 
 module _ (plan : Plan) (heap : List ℕ) (scan : ScanState) (worker : ℕ) (share : Share) (team : Team)
     (of : IsScanOf heap scan) (between : IsBetweenClaims (reader_of plan) heap scan share)
     (done : is_done share.seat ≡ true) (number : share.seat.worker ≡ worker)
-    (bound : share.spool.run_rows ≡ plan.run_rows) (alone : IsAlone share team) where
+    (suited : IsSinkOf plan.spec plan.run_rows share.sink) (alone : IsAlone share team) where
   abbrev claims : List Claim
   claims = share.seat.view.claims
 
@@ -99,30 +106,40 @@ module _ (plan : Plan) (heap : List ℕ) (scan : ScanState) (worker : ℕ) (shar
   all_records_one : all_records (alone.tape ∷ []) ≡ records_of alone.tape
   all_records_one = append-nil (records_of alone.tape)
 
-  on_tape : HasRowsOf plan.table plan.spec heap (claimed_blocks (block_count heap) claims) share.spool.records share.rows
-      → HasRowsOf plan.table plan.spec heap (claimed_blocks (block_count heap) claims) (all_records team.tapes) team.rows
-  on_tape has =
-      let tapes : all_records team.tapes ≡ records_of alone.tape = ap all_records alone.tapes ∙ all_records_one in
-      record {
-        rows = has.rows;
-        are = has.are;
-        same =
-            subst (IsPermutation has.rows) (sym tapes)
-            (IsPermutation-trans has.rows share.spool.records (records_of alone.tape) has.same alone.same);
-        counted = alone.rows ∙ has.counted;
-      }
+  abbrev own_ranges : List SummedRange
+  own_ranges = (held_by share.sink).ranges
 
-  tape_of_worker : HasRowsOf plan.table plan.spec heap (claimed_blocks (block_count heap) claims) share.spool.records share.rows
-      → IsTapeOf plan heap claims worker alone.tape
-  tape_of_worker has = record {
+  abbrev on_tape : Held
+  on_tape = record { records = records_of alone.tape; ranges = own_ranges }
+
+  hold_on_tape : (rows : List Record) → HoldRows plan.spec rows (held_by share.sink) → HoldRows plan.spec rows on_tape
+  hold_on_tape rows hold =
+      hold_moved plan.spec rows (held_by share.sink).records (records_of alone.tape) own_ranges alone.same hold
+
+  held_of_team : held_on team.tapes team.ranges ≡ on_tape
+  held_of_team =
+      ap₂ (λ (tapes : List (List RunView)) (parts : List (List SummedRange)). held_on tapes parts) alone.tapes alone.ranges
+      ∙ ap₂ (λ (records : List Record) (ranges : List SummedRange). record { records = records; ranges = ranges })
+      all_records_one (append-nil own_ranges)
+
+  has_rows : HasRowsOf plan.table plan.spec heap (claimed_blocks (block_count heap) claims) (held_by share.sink) share.rows
+      → HasRowsOf plan.table plan.spec heap (claimed_blocks (block_count heap) claims) (held_on team.tapes team.ranges) team.rows
+  has_rows has = record {
+    rows = has.rows;
+    are = has.are;
+    hold = subst (HoldRows plan.spec has.rows) (sym held_of_team) (hold_on_tape has.rows has.hold);
+    counted = alone.rows ∙ has.counted;
+  }
+
+  part_of_worker : HasRowsOf plan.table plan.spec heap (claimed_blocks (block_count heap) claims) (held_by share.sink) share.rows
+      → IsPartOf plan heap claims worker alone.tape own_ranges
+  part_of_worker has = record {
     rows = has.rows;
     claimed =
         subst (λ (cs : List Claim). AreRowsOfBlocks plan.table plan.spec heap (claimed_blocks (block_count heap) cs) has.rows)
         (sym (claims_all_by worker claims own_claims)) has.are;
-    same = IsPermutation-trans has.rows share.spool.records (records_of alone.tape) has.same alone.same;
-    runs =
-        subst (λ (order : List SortPart). AreBoundedRuns order plan.run_rows alone.tape) between.worker.order
-        (subst (λ (most : ℕ). AreBoundedRuns share.spool.order most alone.tape) bound alone.runs);
+    held = hold_on_tape has.rows has.hold;
+    runs = alone.runs plan.spec plan.run_rows suited;
   }
 
   -- it is a team of one
@@ -147,18 +164,20 @@ module _ (plan : Plan) (heap : List ℕ) (scan : ScanState) (worker : ℕ) (shar
         in_order = subst (λ (s : SeatState). StandsWorkerByWorker s.view.claims) (sym same) (all_one_worker worker claims own_claims);
         taken =
             subst (λ (s : SeatState). IsTakenOf (reader_of plan) heap (claimed_blocks (block_count heap) s.view.claims)
-            (record { view = s.view; fault = team.fault; records = all_records team.tapes; rows = team.rows })) (sym same)
+            (record { view = s.view; fault = team.fault; held = held_on team.tapes team.ranges; rows = team.rows })) (sym same)
             (record {
               judged = between.taken.judged;
               falls = between.taken.falls;
               kept = subst (KeepsLeast plan.table plan.spec heap share.seat.view.reports) (sym alone.fault) between.taken.kept;
-              rows = λ none. on_tape (between.taken.rows none);
+              rows = λ none. has_rows (between.taken.rows none);
             });
         tapes = ap length alone.tapes;
+        ranges = ap length alone.ranges;
         each =
-            subst (λ (s : SeatState). unreported ≤ s.view.seen → AreTapesFrom plan heap s.view.claims worker team.tapes) (sym same)
-            (λ none. subst (AreTapesFrom plan heap claims worker) (sym alone.tapes)
-            (one_tape (IsTapeOf plan heap claims) worker alone.tape (tape_of_worker (between.taken.rows none))));
+            subst (λ (s : SeatState). unreported ≤ s.view.seen → ArePartsFrom plan heap s.view.claims worker team.tapes team.ranges) (sym same)
+            (λ none. subst (λ (parts : List (List SummedRange)). ArePartsFrom plan heap claims worker team.tapes parts) (sym alone.ranges)
+            (subst (λ (tapes : List (List RunView)). ArePartsFrom plan heap claims worker tapes (own_ranges ∷ [])) (sym alone.tapes)
+            (one_part (IsPartOf plan heap claims) worker alone.tape own_ranges (part_of_worker (between.taken.rows none)))));
         few = omega arith;
       }
 
@@ -197,6 +216,13 @@ pairs_append (x ∷ a) b across first second =
     (All-head (λ (x : Claim). All (λ (y : Claim). x.worker ≤ y.worker) b) x a across))
     (pairs_append a b (All-tail (λ (x : Claim). All (λ (y : Claim). x.worker ≤ y.worker) b) x a across)
     (λ i j d less inside. first (suc i) (suc j) d (omega arith) (omega arith)) second)
+
+ranges_append : (a b : List (List SummedRange))
+    → flat_map (λ (part : List SummedRange). part) (a ++ b) ≡ flat_map (λ (part : List SummedRange). part) a ++ flat_map (λ (part : List SummedRange). part) b
+ranges_append [] b = refl
+ranges_append (r ∷ a) b =
+    ap (λ (rs : List SummedRange). r ++ rs) (ranges_append a b)
+    ∙ sym (append_assoc r (flat_map (λ (part : List SummedRange). part) a) (flat_map (λ (part : List SummedRange). part) b))
 
 records_append : (a b : List (List RunView)) → all_records (a ++ b) ≡ all_records a ++ all_records b
 records_append [] b = refl
@@ -242,8 +268,9 @@ module _ (reader : ReaderView) (heap : List ℕ) where
             (omega arith, one.1, one.2)
       ]
 
-  rows_of_both : (xs ys : List ℕ) (a b : List Record) (m n : ℕ) → HasRowsOf reader.table reader.spec heap xs a m
-      → HasRowsOf reader.table reader.spec heap ys b n → HasRowsOf reader.table reader.spec heap (xs ++ ys) (a ++ b) (m + n)
+  rows_of_both : (xs ys : List ℕ) (a b : Held) (m n : ℕ) → HasRowsOf reader.table reader.spec heap xs a m
+      → HasRowsOf reader.table reader.spec heap ys b n
+      → HasRowsOf reader.table reader.spec heap (xs ++ ys) (held_together a b) (m + n)
   rows_of_both xs ys a b m n one other =
       let both = length-append one.rows other.rows in
       let first = one.counted in
@@ -251,7 +278,7 @@ module _ (reader : ReaderView) (heap : List ℕ) where
       record {
         rows = one.rows ++ other.rows;
         are = rows_append reader.table reader.spec heap xs ys one.rows other.rows one.are other.are;
-        same = IsPermutation-append one.rows a other.rows b one.same other.same;
+        hold = hold_together reader.spec one.rows other.rows a b one.hold other.hold;
         counted = omega arith;
       }
 
@@ -270,7 +297,7 @@ module _ (reader : ReaderView) (heap : List ℕ) where
       → IsTakenOf reader heap (xs ++ ys) (record {
         view = joined a.view b.view;
         fault = lesser_fault a.fault b.fault;
-        records = a.records ++ b.records;
+        held = held_together a.held b.held;
         rows = a.rows + b.rows;
       })
   taken_of_both xs ys a b one other =
@@ -283,7 +310,7 @@ module _ (reader : ReaderView) (heap : List ℕ) where
             (judged_behind a.view b.view ys other.judged);
         falls = omega arith;
         kept = kept_of_both a.view.reports b.view.reports a.fault b.fault one.kept other.kept;
-        rows = λ none. rows_of_both xs ys a.records b.records a.rows b.rows (one.rows (omega arith)) (other.rows (omega arith));
+        rows = λ none. rows_of_both xs ys a.held b.held a.rows b.rows (one.rows (omega arith)) (other.rows (omega arith));
       }
 
 module _ (plan : Plan) (heap : List ℕ) (scan : ScanState) (first m n : ℕ) (a b : Team)
@@ -315,15 +342,16 @@ module _ (plan : Plan) (heap : List ℕ) (scan : ScanState) (first m n : ℕ) (a
       (All-weaker (λ (c : Claim). (first ≤ c.worker) × (c.worker < first + m)) (λ (c : Claim). c.worker ≢ worker)
       (λ c is same. let high = is.1 in omega arith) front one.own))
 
-  -- a tape with the rows that its worker claimed, by other claims that give this worker the same
-  tape_still : (before more : List Claim) (worker : ℕ) (tape : List RunView) → claims_by worker more ≡ claims_by worker before
-      → IsTapeOf plan heap before worker tape → IsTapeOf plan heap more worker tape
-  tape_still before more worker tape same is = record {
+  -- a part with the rows that its worker claimed, by other claims that give this worker the same
+  part_still : (before more : List Claim) (worker : ℕ) (tape : List RunView) (ranges : List SummedRange)
+      → claims_by worker more ≡ claims_by worker before → IsPartOf plan heap before worker tape ranges
+      → IsPartOf plan heap more worker tape ranges
+  part_still before more worker tape ranges same is = record {
     rows = is.rows;
     claimed =
         subst (λ (cs : List Claim). AreRowsOfBlocks plan.table plan.spec heap (claimed_blocks (block_count heap) cs) is.rows)
         (sym same) is.claimed;
-    same = is.same;
+    held = is.held;
     runs = is.runs;
   }
 
@@ -354,36 +382,45 @@ module _ (plan : Plan) (heap : List ℕ) (scan : ScanState) (first m n : ℕ) (a
         taken =
             subst (λ (ns : List ℕ). IsTakenOf (reader_of plan) heap ns (taken_by_team both))
             (sym (blocks_append (block_count heap) front back))
-            (subst (λ (rs : List Record). IsTakenOf (reader_of plan) heap
+            (subst (λ (held : Held). IsTakenOf (reader_of plan) heap
             (claimed_blocks (block_count heap) front ++ claimed_blocks (block_count heap) back)
-            (record { view = both.seat.view; fault = both.fault; records = rs; rows = both.rows }))
-            (sym (records_append a.tapes b.tapes))
+            (record { view = both.seat.view; fault = both.fault; held = held; rows = both.rows }))
+            (sym (ap₂ (λ (records : List Record) (ranges : List SummedRange). record { records = records; ranges = ranges })
+            (records_append a.tapes b.tapes) (ranges_append a.ranges b.ranges)))
             (taken_of_both (reader_of plan) heap (claimed_blocks (block_count heap) front)
             (claimed_blocks (block_count heap) back) (taken_by_team a) (taken_by_team b) one.taken other.taken));
         tapes = length-append a.tapes b.tapes ∙ (let c = one.tapes in let d = other.tapes in omega arith);
+        ranges = length-append a.ranges b.ranges ∙ (let c = one.ranges in let d = other.ranges in omega arith);
         each = λ none. each_of (omega arith) (omega arith);
         few = omega arith;
       }
     where
       each_of : unreported ≤ a.seat.view.seen → unreported ≤ b.seat.view.seen
-          → AreTapesFrom plan heap (front ++ back) first (a.tapes ++ b.tapes)
-      each_of no_front no_back place tape at =
+          → ArePartsFrom plan heap (front ++ back) first (a.tapes ++ b.tapes) (a.ranges ++ b.ranges)
+      each_of no_front no_back place tape ranges at beside =
           let m_is = one.tapes in
+          let parts = one.ranges in
           elim (cases_lt place (length a.tapes)) [
             | inl below ↦
                 let here : slice_get a.tapes place ≡ Some tape =
                 sym (get-left a.tapes b.tapes place below) ∙ at in
-                tape_still front (front ++ back) (first + place) tape (by_front (first + place) (omega arith))
-                (one.each no_front place tape here)
+                let with : slice_get a.ranges place ≡ Some ranges =
+                sym (get-left a.ranges b.ranges place (omega arith)) ∙ beside in
+                part_still front (front ++ back) (first + place) tape ranges (by_front (first + place) (omega arith))
+                (one.each no_front place tape ranges here with)
             | inr above ↦
                 let rest : length a.tapes + (place - length a.tapes) ≡ place = omega arith in
                 let there : slice_get b.tapes (place - length a.tapes) ≡ Some tape =
                 sym (get-right a.tapes b.tapes (place - length a.tapes))
                 ∙ ap (slice_get (a.tapes ++ b.tapes)) rest ∙ at in
+                let rest_too : length a.ranges + (place - length a.tapes) ≡ place = omega arith in
+                let with : slice_get b.ranges (place - length a.tapes) ≡ Some ranges =
+                sym (get-right a.ranges b.ranges (place - length a.tapes))
+                ∙ ap (slice_get (a.ranges ++ b.ranges)) rest_too ∙ beside in
                 let worker : (first + m) + (place - length a.tapes) ≡ first + place = omega arith in
-                tape_still back (front ++ back) (first + place) tape (by_back (first + place) (omega arith))
-                (subst (λ (w : ℕ). IsTapeOf plan heap back w tape) worker
-                (other.each no_back (place - length a.tapes) tape there))
+                part_still back (front ++ back) (first + place) tape ranges (by_back (first + place) (omega arith))
+                (subst (λ (w : ℕ). IsPartOf plan heap back w tape ranges) worker
+                (other.each no_back (place - length a.tapes) tape ranges there with))
           ]
 
 -- what the call that joins them answers

@@ -4,21 +4,24 @@ use Rattle.std.specs.Prelude.{Contains}
 use Rattle.std.specs.List.{range_with_len}
 use Rattle.std.proofs.lemmas.List.{append-nil, append_assoc, length-append}
 use Rattle.std.proofs.lemmas.List.Elements.{All-push, All-weaker, Contains-append_left, Contains-push}
-use Rattle.std.proofs.lemmas.List.Sorted.{IsPermutation-append_left, IsPermutation-trans}
 use Rattle.opclass.specs.declared.spec.IndexSpec.{IndexSpec}
 use Rattle.opclass.specs.declared.table.Table.{Table}
+use Rattle.block_claim.specs.declared.claim.Claim.{Claim}
 use Rattle.block_claim.specs.declared.view.View.{View}
+use Rattle.block_claim.specs.Calls.{ClaimsAreLegal, IsSeatOf, MakesReport, NoReportIsMissed, ScanState, SeatState}
 use Rattle.block_claim.specs.Views.{least_of, unreported}
 use Rattle.block_claim.proofs.Floors.{least_append, least_top}
 use Rattle.shared_tape.specs.declared.stored.Record.{Record}
-use Rattle.spool.specs.Spools.{SpoolView}
+use Rattle.build_leader.specs.declared.sink.Sink.{Sink}
 use Rattle.build_leader.specs.declared.worker.BlockFault.{BlockFault}
 use Rattle.build_leader.specs.declared.worker.Share.{Share}
 use Rattle.build_leader.specs.Blocks.{block_count, page_of}
 use Rattle.build_leader.specs.HeapRows.{AreBlockRows, AreRowsOfBlocks, IsBlockFault, IsSoundBlock}
+use Rattle.build_leader.specs.Holding.{StaysSuited, held_by}
 use Rattle.build_leader.specs.Reader.{ReaderView}
 use Rattle.build_leader.proofs.SharedRows.{rows_append}
-use Rattle.build_leader.specs.Scanning.{HasRowsOf, HasTaken, IsJudged, KeepsLeast, TakesBlocks, TakesPage}
+use Rattle.build_leader.proofs.Held.{stays_both, stays_suited}
+use Rattle.build_leader.specs.Scanning.{HasRowsOf, HasTaken, IsJudged, IsSameWorker, IsWorker, KeepsLeast, TakesBlocks, TakesPage}
 
 -- ---- rows of blocks
 
@@ -27,9 +30,9 @@ module _ (table : Table) (spec : IndexSpec) (heap : List ℕ) where
   one_block block rows are = (rows, ([], sym (append-nil rows), are, refl))
 
   -- the rows of one block more
-  rows_more : (blocks : List ℕ) (block : ℕ) (old new : SpoolView) (before count : ℕ) → HasRowsOf table spec heap blocks old.records before
+  rows_more : (blocks : List ℕ) (block : ℕ) (old new : Sink) (before count : ℕ) → HasRowsOf table spec heap blocks (held_by old) before
       → TakesPage table spec (page_of heap block) block old count new
-      → HasRowsOf table spec heap (blocks ++ block ∷ []) new.records (before + count)
+      → HasRowsOf table spec heap (blocks ++ block ∷ []) (held_by new) (before + count)
   rows_more blocks block old new before count has takes =
       let taken = takes.2 in
       let both = length-append has.rows taken.records in
@@ -38,9 +41,7 @@ module _ (table : Table) (spec : IndexSpec) (heap : List ℕ) where
       record {
         rows = has.rows ++ taken.records;
         are = rows_append table spec heap blocks (block ∷ []) has.rows taken.records has.are (one_block block taken.records (takes.0, takes.1, taken.are));
-        same =
-            IsPermutation-trans (has.rows ++ taken.records) (old.records ++ taken.records) new.records
-            (IsPermutation-append_left taken.records has.rows old.records has.same) taken.took;
+        hold = taken.took has.rows has.hold;
         counted = omega arith;
       }
 
@@ -59,6 +60,14 @@ module _ (table : Table) (spec : IndexSpec) (heap : List ℕ) where
       still block (inr (inr told)) =
           inr (inr (subst (λ (all : List ℕ). Contains all block) (sym reports) (Contains-append_left old.reports more block told)))
 
+-- the same worker still
+pub same_both : (a b c : Share) → IsSameWorker a b → IsSameWorker b c → IsSameWorker a c
+same_both a b c first second = record {
+  worker = second.worker ∙ first.worker;
+  share = second.share ∙ first.share;
+  sink = stays_both a.sink b.sink c.sink first.sink second.sink;
+}
+
 module _ (reader : ReaderView) (heap : List ℕ) where
   abbrev At : Share → ℕ → Type 0
   At share block = IsJudged reader.table reader.spec heap share.seat.view block
@@ -74,17 +83,17 @@ module _ (reader : ReaderView) (heap : List ℕ) where
   }
 
   -- a sound block is taken
-  pub was_taken : (share : Share) (spool : SpoolView) (block rows count : ℕ)
+  pub was_taken : (share : Share) (sink : Sink) (block rows count : ℕ)
       → IsSoundBlock reader.table reader.spec (page_of heap block)
-      → TakesPage reader.table reader.spec (page_of heap block) block share.spool count spool → rows ≡ share.rows + count
-      → TakesBlocks reader heap (block ∷ []) share (record share { spool = spool; rows = rows })
-  was_taken share spool block rows count sound takes sum before has = record {
+      → TakesPage reader.table reader.spec (page_of heap block) block share.sink count sink → rows ≡ share.rows + count
+      → TakesBlocks reader heap (block ∷ []) share (record share { sink = sink; rows = rows })
+  was_taken share sink block rows count sound takes sum before has = record {
     judged = All-push (At share) before block has.judged (inl sound);
     falls = has.falls;
     kept = has.kept;
     rows = λ none.
-        subst (λ (n : ℕ). HasRowsOf reader.table reader.spec heap (before ++ block ∷ []) spool.records n) (sym sum)
-        (rows_more reader.table reader.spec heap before block share.spool spool share.rows count (has.rows none) takes);
+        subst (λ (n : ℕ). HasRowsOf reader.table reader.spec heap (before ++ block ∷ []) (held_by sink) n) (sym sum)
+        (rows_more reader.table reader.spec heap before block share.sink sink share.rows count (has.rows none) takes);
   }
 
   -- a block with a fault is reported, and its fault is kept
@@ -107,6 +116,36 @@ module _ (reader : ReaderView) (heap : List ℕ) where
         kept = subst (λ (f : Option BlockFault). KeepsLeast reader.table reader.spec heap new.seat.view.reports f) (sym kept)
             (sym report, inside, fault);
         rows = λ none. absurd (omega arith);
+      }
+
+  -- ---- the worker
+
+  -- it took rows
+  pub worker_took : (scan : ScanState) (share : Share) (sink : Sink) (rows : ℕ) → IsWorker reader scan share
+      → StaysSuited share.sink sink → IsWorker reader scan (record share { sink = sink; rows = rows })
+  worker_took scan share sink rows worker stays = record {
+    of_scan = worker.of_scan;
+    own = worker.own;
+    suits = stays_suited reader.spec share.sink sink stays worker.suits;
+    legal = worker.legal;
+    missed = worker.missed;
+  }
+
+  -- or reported a block
+  pub worker_reported : (scan : ScanState) (share : Share) (seat : SeatState) (sink : Sink) (fault : Option BlockFault) (block : ℕ)
+      → IsWorker reader scan share → StaysSuited share.sink sink → MakesReport share.seat block seat → ClaimsAreLegal seat
+      → NoReportIsMissed seat
+      → IsWorker reader scan (record { seat = seat; sink = sink; rows = share.rows; fault = fault })
+  worker_reported scan share seat sink fault block worker stays reports legal missed =
+      let is = reports.2 in
+      record {
+        of_scan =
+            subst (IsSeatOf scan) (sym is)
+            (record { table = worker.of_scan.table; blocks = worker.of_scan.blocks; seats = worker.of_scan.seats });
+        own = subst (λ (s : SeatState). All (λ (c : Claim). c.worker ≡ s.worker) s.view.claims) (sym is) worker.own;
+        suits = stays_suited reader.spec share.sink sink stays worker.suits;
+        legal = legal;
+        missed = missed;
       }
 
   -- ---- several blocks

@@ -5,6 +5,7 @@ use Rattle.std.specs.List.{list_any, range_with_len}
 use Rattle.opclass.specs.declared.spec.IndexSpec.{IndexSpec}
 use Rattle.opclass.specs.declared.table.Table.{Table}
 use Rattle.opclass.specs.declared.types.ColType.{ColType}
+use Rattle.opclass.specs.declared.types.Method.TheVariants.{BTree, Gin}
 use Rattle.opclass.specs.declared.value.KeyVal.{KeyVal}
 use Rattle.opclass.specs.Filter.{PassesFilter, value_of}
 use Rattle.opclass.specs.Needed.{named_columns}
@@ -15,6 +16,9 @@ use Rattle.heap_row.specs.Fault.{number_of_row_cause}
 use Rattle.heap_row.specs.Tuple.{tuple_of}
 use Rattle.shared_tape.specs.declared.stored.Record.{Record}
 use Rattle.btree_item.specs.Tuple.{size_of}
+use Rattle.build_leader.specs.declared.width.WidthCause.{WidthCause}
+use Rattle.build_leader.specs.declared.width.WidthCause.TheVariants as width
+use Rattle.build_leader.specs.Entries.{HasWideEntry}
 
 -- the columns that the index needs, each once, ascending
 abbrev pub needed_of : Table → IndexSpec → List ℕ
@@ -57,24 +61,35 @@ pub record IsLeftOut (table : Table) (spec : IndexSpec) (page : List ℕ) (item 
 abbrev pub most_tuple : ℕ
 most_tuple = 2704
 
--- what can be wrong with a live item: a column of it can't be read, or its index tuple is too large
+-- what can be wrong with a live item: a column of it can't be read, its tuple is too large for a B-tree, or an entry of
+-- it too large for a GIN index
 pub data ItemCause : Type 0 where
   Unread : RowCause → ItemCause
-  Wide : ItemCause
+  TooWide : WidthCause → ItemCause
 
 -- the number by which a cause is told
+abbrev pub number_of_width_cause : WidthCause → ℕ
+number_of_width_cause width.Tuple = 12
+number_of_width_cause width.Entry = 13
+
 abbrev pub number_of_item_cause : ItemCause → ℕ
 number_of_item_cause (Unread cause) = number_of_row_cause cause
-number_of_item_cause Wide = 12
+number_of_item_cause (TooWide cause) = number_of_width_cause cause
+
+-- the values of an index's columns are too large for it, by its method: a BRIN index tells of ranges, and asks nothing of
+-- a row
+abbrev pub AreTooWide : WidthCause → IndexSpec → List ColType → List KeyVal → Type 0
+AreTooWide width.Tuple spec kinds values = (spec.method ≡ BTree) × (most_tuple < size_of kinds values)
+AreTooWide width.Entry spec kinds values = (spec.method ≡ Gin) × HasWideEntry kinds values
 
 -- a live item has a fault
 abbrev pub HasItemFault : Table → IndexSpec → List ℕ → ℕ → ItemCause → Type 0
 HasItemFault table spec page item (Unread cause) =
     IsLive page item × (values_of (tuple_of page item) table.columns (needed_of table spec) ≡ Err cause)
-HasItemFault table spec page item Wide =
+HasItemFault table spec page item (TooWide cause) =
     IsLive page item
     × ((keys extra : List KeyVal) × HasIndexValues table spec page item keys extra
-    × (most_tuple < size_of (index_kinds table spec) (keys ++ extra)))
+    × AreTooWide cause spec (index_kinds table spec) (keys ++ extra))
 
 -- the row of the index that a row of a block's page is: its values, and the pointer to its root
 pub record IsIndexRow (table : Table) (spec : IndexSpec) (page : List ℕ) (block : ℕ) (row : Row) (record' : Record)

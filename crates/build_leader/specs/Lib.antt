@@ -2,6 +2,8 @@
 
 -- the blocks of a heap
 pub mod Blocks
+-- the entries of rows of arrays
+pub mod Entries
 -- the row of an index that a live item is
 pub mod IndexRow
 -- the faults of blocks, and the rows of an index in them
@@ -10,8 +12,20 @@ pub mod HeapRows
 pub mod Claimed
 -- the unique rule
 pub mod Unique
+-- the ranges of blocks of which a BRIN index tells
+pub mod Ranges
 -- what the blocks come to for an index
 pub mod Outcome
+-- how a worker's ranges grow
+pub mod Tally
+-- how the ranges of workers become those of the heap
+pub mod Uniting
+-- what the packing of a GIN index asks and gives
+pub mod Gin
+-- which arrays may have entries that are too large
+pub mod WideEntry
+-- what workers hold of the rows that they took
+pub mod Holding
 -- what rows are read by
 pub mod Reader
 -- what the passes of a scan keep
@@ -26,17 +40,7 @@ pub mod Laws
 pub mod Merging
 -- what the pass over sorted rows keeps
 pub mod Pass
--- the entries of rows of arrays
-pub mod Entries
--- what the packing of a GIN index asks and gives
-pub mod Gin
--- which arrays may have entries that are too large
-pub mod WideEntry
 -- what holds of a GIN index, whatever the rows are
 pub mod EntryLaws
--- the ranges of a BRIN index, over rows
-pub mod Ranges
--- how a worker's ranges grow
-pub mod Tally
--- how the ranges of workers become those of the heap
-pub mod Uniting
+-- what workers have of the rows, and the file that is packed of it
+pub mod Packing

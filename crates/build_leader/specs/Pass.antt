@@ -53,6 +53,7 @@ abbrev pub IsPackFault : IndexSpec → List SortPart → List Record → LeadFau
 IsPackFault spec order whole (lead.Row block item cause) = ⊥
 IsPackFault spec order whole (lead.Duplicate first second) =
     IsTrue spec.unique × ((sorted : List Record) × IsSortedRecords order whole sorted × IsFirstClash spec sorted first second)
+IsPackFault spec order whole (lead.RangeWide range size) = ⊥
 IsPackFault spec order whole lead.Memory = ⊤
 
 -- a packer has one row more, whatever was put before
@@ -66,4 +67,5 @@ abbrev pub IsClash : IndexSpec → Record → Record → LeadFault → Type 0
 IsClash spec held next (lead.Row block item cause) = ⊥
 IsClash spec held next (lead.Duplicate first second) =
     IsTrue spec.unique × Clash spec held next × (first ≡ held.ptr) × (second ≡ next.ptr)
+IsClash spec held next (lead.RangeWide range size) = ⊥
 IsClash spec held next lead.Memory = ⊤

@@ -4,7 +4,7 @@ use Rattle.pg_bytes.specs.declared.row_ptr.RowPtr.{RowPtr}
 use Rattle.pg_bytes.specs.PageLayout.{page_size}
 use Rattle.opclass.specs.declared.spec.IndexSpec.{IndexSpec}
 use Rattle.opclass.specs.declared.table.Table.{Table}
-use Rattle.opclass.specs.declared.types.Method.TheVariants.{BTree}
+use Rattle.opclass.specs.declared.types.ColType.{ColType}
 use Rattle.opclass.specs.declared.value.KeyVal.{KeyVal}
 use Rattle.opclass.specs.Filter.{PassesFilter}
 use Rattle.opclass.specs.Indexes.{IsIndexOver, IsTable}
@@ -14,21 +14,21 @@ use Rattle.heap_row.specs.Attribute.{values_of}
 use Rattle.heap_row.specs.Tuple.{tuple_of}
 use Rattle.heap_row.specs.Typed.{AreReadOf}
 use Rattle.shared_tape.specs.declared.stored.Record.{Record}
-use Rattle.shared_tape.specs.Stored.{IsStorable}
 use Rattle.build_leader.specs.declared.row_reader.RowReader.TheInside.{Inside}
-use Rattle.build_leader.specs.IndexRow.{AreValuesOf, HasIndexValues, HasItemFault, IsLeftOut, ItemCause, index_columns, index_kinds, needed_of, number_of_item_cause}
-use Rattle.build_leader.specs.Outcome.{order_of_index}
+use Rattle.build_leader.specs.declared.width.WidthCause.{WidthCause}
+use Rattle.build_leader.specs.Entries.{HasWideEntry}
+use Rattle.build_leader.specs.IndexRow.{AreTooWide, AreValuesOf, HasIndexValues, HasItemFault, IsLeftOut, ItemCause, index_columns, index_kinds, needed_of, number_of_item_cause, number_of_width_cause}
+use Rattle.build_leader.specs.Holding.{IsTakeable}
 
 -- a reader of the rows of an index over a table
 pub record ReaderView : Type 0 where
   pub table : Table
   pub spec : IndexSpec
 
--- an index that rows are read for: a B-tree
-pub record IsBTreeOver (table : Table) (spec : IndexSpec) : Type 0 where
+-- an index that rows are read for
+pub record IsReadable (table : Table) (spec : IndexSpec) : Type 0 where
   pub table_is : IsTable table
   pub over : IsIndexOver table spec
-  pub method : spec.method ≡ BTree
 
 -- these items stand at these places of a list
 abbrev pub AreAt : {X : Type 0} → List X → List ℕ → List X → Type 0
@@ -37,7 +37,7 @@ AreAt items places picked = map (slice_get items) places ≡ map Some picked
 -- a reader has the needed columns of the table, the types of the index's columns, and the places of these columns among
 -- the needed ones, which it knows where they are the needed ones as they stand
 pub record IsSoundReader (reader : Inside) : Type 0 where
-  pub tree : IsBTreeOver reader.table.now reader.spec.now
+  pub index : IsReadable reader.table.now reader.spec.now
   pub needed : reader.needed ≡ needed_of reader.table.now reader.spec.now
   pub kinds : reader.kinds ≡ index_kinds reader.table.now reader.spec.now
   pub places : AreAt reader.needed reader.places.items (index_columns reader.spec.now)
@@ -56,12 +56,12 @@ abbrev pub AreReadOrLeft : Table → IndexSpec → List ℕ → ℕ → Option (
 AreReadOrLeft table spec page item None = IsLeftOut table spec page item
 AreReadOrLeft table spec page item (Some picked) = AreRead table spec page item picked
 
--- a record that an item is in an index, with this pointer, and that a run takes
+-- a record that an item is in an index, with this pointer, and that a sink takes
 pub record IsReadRecord (table : Table) (spec : IndexSpec) (page : List ℕ) (item : ℕ) (ptr : RowPtr) (record' : Record)
     : Type 0 where
   pub values : HasIndexValues table spec page item record'.keys record'.extra
   pub pointer : record'.ptr ≡ ptr
-  pub storable : IsStorable (order_of_index spec) record'
+  pub takeable : IsTakeable spec record'
 
 -- an item's record, or none where WHERE leaves the item out
 abbrev pub IsReadOrLeft : Table → IndexSpec → List ℕ → ℕ → RowPtr → Option Record → Type 0
@@ -77,3 +77,18 @@ abbrev pub IsItemFault : Table → IndexSpec → List ℕ → ℕ → RowFault �
 IsItemFault table spec page item (fault.Value number) =
     (cause : ItemCause) × HasItemFault table spec page item cause × (number ≡ number_of_item_cause cause)
 IsItemFault table spec page item fault.Memory = ⊤
+
+-- how a cause of width is told
+abbrev pub fault_of_width : WidthCause → RowFault
+fault_of_width cause = fault.Value (number_of_width_cause cause)
+
+-- why values are refused: they are too large for the index, or want of memory
+abbrev pub IsWidthFault : IndexSpec → List ColType → List KeyVal → RowFault → Type 0
+IsWidthFault spec kinds values (fault.Value number) =
+    (cause : WidthCause) × AreTooWide cause spec kinds values × (number ≡ number_of_width_cause cause)
+IsWidthFault spec kinds values fault.Memory = ⊤
+
+-- why the value of an array is refused: it has an entry that is too large, or want of memory
+abbrev pub IsEntryFault : List ColType → List KeyVal → RowFault → Type 0
+IsEntryFault kinds values (fault.Value number) = HasWideEntry kinds values × (number ≡ 13)
+IsEntryFault kinds values fault.Memory = ⊤

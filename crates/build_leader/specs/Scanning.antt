@@ -1,8 +1,6 @@
 -- What the passes of a scan keep: the rows of a page, and those of the blocks that a worker was at.
 use Rattle.std.specs.Prelude.{◌≡◌, ◌⊎◌, ◌+◌, ◌*◌, ◌^◌, ◌<◌, ◌≤◌, ⊤, ℕ, Bool, true, false, List, [], ◌∷◌, ◌++◌, length, All, Contains, Option, Some, None}
-use Rattle.std.specs.List.Sorted.{IsPermutation}
 use Rattle.opclass.specs.declared.spec.IndexSpec.{IndexSpec}
-use Rattle.opclass.specs.declared.spec.SortPart.{SortPart}
 use Rattle.opclass.specs.declared.table.Table.{Table}
 use Rattle.hot_chain.specs.declared.fault.RootFault.{RootFault}
 use Rattle.hot_chain.specs.declared.fault.RootFault.TheVariants as chains
@@ -12,43 +10,34 @@ use Rattle.block_claim.specs.Calls.{ClaimsAreLegal, IsSeatOf, NoReportIsMissed, 
 use Rattle.block_claim.specs.Views.{least_of, unreported}
 use Rattle.heap_row.specs.declared.fault.RowFault.TheVariants as fault
 use Rattle.shared_tape.specs.declared.stored.Record.{Record}
-use Rattle.shared_tape.specs.Runs.{RunView, records_of}
-use Rattle.spool.specs.Spools.{AreBoundedRuns, SpoolView, TakesRecord}
 use Rattle.build_leader.specs.declared.block.BlockError.{BlockError}
 use Rattle.build_leader.specs.declared.block.BlockError.TheVariants as error
-use Rattle.build_leader.specs.declared.fault.LeadFault.{LeadFault}
-use Rattle.build_leader.specs.declared.fault.LeadFault.TheVariants as lead
-use Rattle.build_leader.specs.declared.scanned.Scanned.{Scanned}
+use Rattle.build_leader.specs.declared.sink.Sink.{Sink}
 use Rattle.build_leader.specs.declared.worker.BlockFault.{BlockFault}
 use Rattle.build_leader.specs.declared.worker.Share.{Share}
 use Rattle.build_leader.specs.Blocks.{IsWhole, block_count, page_of}
 use Rattle.build_leader.specs.Claimed.{claimed_blocks}
 use Rattle.build_leader.specs.HeapRows.{AreRowsOfBlocks, IsBlockFault, IsSoundBlock}
 use Rattle.build_leader.specs.IndexRow.{AreIndexRows, IsIndexRow, IsLeftOut}
-use Rattle.build_leader.specs.Outcome.{order_of_index}
+use Rattle.build_leader.specs.Holding.{Held, HoldRows, StaysSuited, Suits, TakesInto, held_by}
 use Rattle.build_leader.specs.Reader.{IsItemFault, ReaderView}
 
--- a spool's bound and order stayed
-pub record IsSameSpool (old new : SpoolView) : Type 0 where
-  pub run_rows : new.run_rows ≡ old.run_rows
-  pub order : new.order ≡ old.order
-
--- a row of a page went into a spool as the index has it, or WHERE left it out
-abbrev pub TakesRow : Table → IndexSpec → List ℕ → ℕ → Row → SpoolView → Bool → SpoolView → Type 0
+-- a row of a page went into a sink as the index has it, or WHERE left it out
+abbrev pub TakesRow : Table → IndexSpec → List ℕ → ℕ → Row → Sink → Bool → Sink → Type 0
 TakesRow table spec page block row old false new = IsLeftOut table spec page row.item × (new ≡ old)
 TakesRow table spec page block row old true new =
-    (first : Record) × IsIndexRow table spec page block row first × TakesRecord old first new
+    (first : Record) × IsIndexRow table spec page block row first × TakesInto spec old (first ∷ []) new
 
--- what rows of a page are in the index went into a spool, and so many they are
-pub record TakesRows (table : Table) (spec : IndexSpec) (page : List ℕ) (block : ℕ) (rows : List Row) (old : SpoolView)
-    (count : ℕ) (new : SpoolView) : Type 0 where
+-- what rows of a page are in the index went into a sink, and so many they are
+pub record TakesRows (table : Table) (spec : IndexSpec) (page : List ℕ) (block : ℕ) (rows : List Row) (old : Sink)
+    (count : ℕ) (new : Sink) : Type 0 where
   pub records : List Record
   pub are : AreIndexRows table spec page block rows records
   pub counted : count ≡ length records
-  pub took : IsPermutation (old.records ++ records) new.records
+  pub took : TakesInto spec old records new
 
--- the rows of a page went into a spool
-abbrev pub TakesPage : Table → IndexSpec → List ℕ → ℕ → SpoolView → ℕ → SpoolView → Type 0
+-- the rows of a page went into a sink
+abbrev pub TakesPage : Table → IndexSpec → List ℕ → ℕ → Sink → ℕ → Sink → Type 0
 TakesPage table spec page block old count new =
     (rows : List Row) × AreRows page rows × TakesRows table spec page block rows old count new
 
@@ -80,19 +69,20 @@ KeepsLeast table spec heap reports (Some fault) =
     (fault.block ≡ least_of reports) × (fault.block < block_count heap)
     × IsBlockFault table spec (page_of heap fault.block) fault.item fault.cause
 
--- records, in some order, are the rows of these blocks, and so many they are
-pub record HasRowsOf (table : Table) (spec : IndexSpec) (heap : List ℕ) (blocks : List ℕ) (records : List Record) (count : ℕ)
+-- what is held are the rows of these blocks, and so many they are
+pub record HasRowsOf (table : Table) (spec : IndexSpec) (heap : List ℕ) (blocks : List ℕ) (held : Held) (count : ℕ)
     : Type 0 where
   pub rows : List Record
   pub are : AreRowsOfBlocks table spec heap blocks rows
-  pub same : IsPermutation rows records
+  pub hold : HoldRows spec rows held
   pub counted : count ≡ length rows
 
--- What workers have: what their seat knows, the fault that they kept, and the rows that they took and how many.
+-- What workers have: what their seat knows, the fault that they kept, and what they hold of the rows that they took and
+-- how many these are.
 pub record Taken : Type 0 where
   pub view : View
   pub fault : Option BlockFault
-  pub records : List Record
+  pub held : Held
   pub rows : ℕ
 
 -- It is that of these blocks. As long as no report was seen, it has their rows.
@@ -100,14 +90,14 @@ pub record IsTakenOf (reader : ReaderView) (heap : List ℕ) (blocks : List ℕ)
   pub judged : All (IsJudged reader.table reader.spec heap taken.view) blocks
   pub falls : taken.view.seen ≤ least_of taken.view.reports
   pub kept : KeepsLeast reader.table reader.spec heap taken.view.reports taken.fault
-  pub rows : unreported ≤ taken.view.seen → HasRowsOf reader.table reader.spec heap blocks taken.records taken.rows
+  pub rows : unreported ≤ taken.view.seen → HasRowsOf reader.table reader.spec heap blocks taken.held taken.rows
 
 -- what one worker has
 abbrev pub taken_by : Share → Taken
 taken_by share = record {
   view = share.seat.view;
   fault = share.fault;
-  records = share.spool.records;
+  held = held_by share.sink;
   rows = share.rows;
 }
 
@@ -120,12 +110,12 @@ abbrev pub TakesBlocks : ReaderView → List ℕ → List ℕ → Share → Shar
 TakesBlocks reader heap more old new =
     (before : List ℕ) → HasTaken reader heap before old → HasTaken reader heap (before ++ more) new
 
--- A worker of a scan, with the order of the index. Its claims are its own; and if it came to have the whole share, it
+-- A worker of a scan, with a sink for the index. Its claims are its own; and if it came to have the whole share, it
 -- would know that all claims are legal and that it has seen no less than the least report.
 pub record IsWorker (reader : ReaderView) (scan : ScanState) (share : Share) : Type 0 where
   pub of_scan : IsSeatOf scan share.seat
   pub own : All (λ claim. claim.worker ≡ share.seat.worker) share.seat.view.claims
-  pub order : share.spool.order ≡ order_of_index reader.spec
+  pub suits : Suits reader.spec share.sink
   pub legal : ClaimsAreLegal share.seat
   pub missed : NoReportIsMissed share.seat
 
@@ -140,7 +130,7 @@ pub record IsBetweenClaims (reader : ReaderView) (heap : List ℕ) (scan : ScanS
 pub record IsSameWorker (old new : Share) : Type 0 where
   pub worker : new.seat.worker ≡ old.seat.worker
   pub share : new.seat.view.share ≡ old.seat.view.share
-  pub run_rows : new.spool.run_rows ≡ old.spool.run_rows
+  pub sink : StaysSuited old.sink new.sink
 
 -- a heap and a scan that was opened for its blocks, of a few workers
 pub record IsScanOf (heap : List ℕ) (scan : ScanState) : Type 0 where
@@ -154,10 +144,10 @@ pub record IsOneClaimMore (scan : ScanState) (old new : Share) : Type 0 where
   pub few : length new.seat.view.claims ≤ scan.blocks + scan.seats
 
 -- what a worker begins with
-abbrev pub begun_with : SeatState → ℕ → List SortPart → Share
-begun_with seat run_rows order = record {
+abbrev pub begun_with : SeatState → Sink → Share
+begun_with seat sink = record {
   seat = seat;
-  spool = record { run_rows = run_rows; order = order; records = [] };
+  sink = sink;
   rows = 0;
   fault = None;
 }

@@ -3,13 +3,13 @@
 use Rattle.std.specs.Prelude.{◌≡◌, ℕ, nat_lt, ◌+◌, ◌*◌, ◌^◌, ◌<◌, ◌≤◌, true, if◌then◌else◌, List, [], ◌∷◌, ◌++◌, length, All, Option, Some, None, slice_get}
 use Rattle.std.specs.List.{sum_by}
 use Rattle.std.specs.List.Sorted.{IsPermutation}
+use Rattle.opclass.specs.declared.spec.IndexSpec.{IndexSpec}
 use Rattle.block_claim.specs.declared.claim.Claim.{Claim}
 use Rattle.block_claim.specs.Calls.{ClaimsAreLegal, IsFresh, IsSeatOf, NoReportIsMissed, ScanState, SeatState, is_done, with_view}
 use Rattle.block_claim.specs.Legal.{StandsWorkerByWorker}
 use Rattle.block_claim.specs.Views.{joined, unreported}
 use Rattle.shared_tape.specs.Runs.{RunView, records_of}
 use Rattle.spool.specs.Spools.{AreBoundedRuns}
-use Rattle.run_merge.specs.Sorted.{all_records}
 use Rattle.build_leader.specs.declared.fault.LeadFault.{LeadFault}
 use Rattle.build_leader.specs.declared.fault.LeadFault.TheVariants as lead
 use Rattle.build_leader.specs.declared.plan.Plan.{Plan}
@@ -18,8 +18,9 @@ use Rattle.build_leader.specs.declared.team.Team.{Team}
 use Rattle.build_leader.specs.declared.worker.BlockFault.{BlockFault}
 use Rattle.build_leader.specs.declared.worker.Share.{Share}
 use Rattle.build_leader.specs.Blocks.{block_count}
-use Rattle.build_leader.specs.Calls.{AreTapesFrom}
+use Rattle.build_leader.specs.Calls.{ArePartsFrom}
 use Rattle.build_leader.specs.Claimed.{claimed_blocks}
+use Rattle.build_leader.specs.Holding.{IsSinkOf, held_by, held_on, order_by}
 use Rattle.build_leader.specs.Reader.{ReaderView}
 use Rattle.build_leader.specs.Scanning.{IsTakenOf, Taken}
 
@@ -46,7 +47,7 @@ abbrev pub taken_by_team : Team → Taken
 taken_by_team team = record {
   view = team.seat.view;
   fault = team.fault;
-  records = all_records team.tapes;
+  held = held_on team.tapes team.ranges;
   rows = team.rows;
 }
 
@@ -54,8 +55,8 @@ taken_by_team team = record {
 abbrev pub AreClaimsOfWorkers : ℕ → ℕ → List Claim → Type 0
 AreClaimsOfWorkers first count claims = All (λ claim. (first ≤ claim.worker) × (claim.worker < first + count)) claims
 
--- Workers numbered from one on, and so many, at the end of their claims. As long as they have seen no report, each
--- tape has the rows that its worker claimed.
+-- Workers numbered from one on, and so many, at the end of their claims. As long as they have seen no report, the tape
+-- and the ranges of each hold the rows that it claimed.
 pub record IsTeam (plan : Plan) (heap : List ℕ) (scan : ScanState) (first count : ℕ) (team : Team) : Type 0 where
   pub of_scan : IsSeatOf scan team.seat
   pub done : is_done team.seat ≡ true
@@ -65,37 +66,42 @@ pub record IsTeam (plan : Plan) (heap : List ℕ) (scan : ScanState) (first coun
   pub in_order : StandsWorkerByWorker team.seat.view.claims
   pub taken : IsTakenOf (reader_of plan) heap (claimed_blocks (block_count heap) team.seat.view.claims) (taken_by_team team)
   pub tapes : length team.tapes ≡ count
+  pub ranges : length team.ranges ≡ count
   pub each : unreported ≤ team.seat.view.seen
-      → AreTapesFrom plan heap team.seat.view.claims first team.tapes
+      → ArePartsFrom plan heap team.seat.view.claims first team.tapes team.ranges
   pub few : team.rows ≤ count * 2 ^ 52
 
--- two teams as one: the seats joined, the tapes of the second behind those of the first, and the lesser fault
+-- two teams as one: the seats joined, the tapes and ranges of the second behind those of the first, and the lesser fault
 abbrev pub joined_team : Team → Team → Team
 joined_team a b = record {
   seat = with_view a.seat (joined a.seat.view b.seat.view);
   tapes = a.tapes ++ b.tapes;
+  ranges = a.ranges ++ b.ranges;
   rows = a.rows + b.rows;
   fault = lesser_fault a.fault b.fault;
 }
 
--- one worker became a team: its rows are on a tape
+-- one worker became a team: what it held is on a tape and in ranges
 pub record IsAlone (share : Share) (team : Team) : Type 0 where
   pub seat : team.seat ≡ share.seat
   pub rows : team.rows ≡ share.rows
   pub fault : team.fault ≡ share.fault
   pub tape : List RunView
   pub tapes : team.tapes ≡ tape ∷ []
-  pub same : IsPermutation share.spool.records (records_of tape)
-  pub runs : AreBoundedRuns share.spool.order share.spool.run_rows tape
+  pub same : IsPermutation (held_by share.sink).records (records_of tape)
+  pub ranges : team.ranges ≡ (held_by share.sink).ranges ∷ []
+  pub runs : (spec : IndexSpec) (run_rows : ℕ) → IsSinkOf spec run_rows share.sink
+      → AreBoundedRuns (order_by spec.method spec) run_rows tape
 
 -- a team without a fault handed over what it has
 pub record HandsOver (team : Team) (scanned : Scanned) : Type 0 where
   pub sound : team.fault ≡ None
-  pub is : scanned ≡ record { tapes = team.tapes; seat = team.seat; rows = team.rows }
+  pub is : scanned ≡ record { tapes = team.tapes; ranges = team.ranges; seat = team.seat; rows = team.rows }
 
 -- why it didn't: the fault that it kept
 abbrev pub TellsFault : Team → LeadFault → Type 0
 TellsFault team (lead.Row block item cause) =
     team.fault ≡ Some (record { block = block; item = item; cause = cause })
 TellsFault team (lead.Duplicate first second) = ⊥
+TellsFault team (lead.RangeWide range size) = ⊥
 TellsFault team lead.Memory = ⊥

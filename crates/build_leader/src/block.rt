@@ -7,16 +7,16 @@ ghost use Rattle.heap_page.specs.Fault.{IsSoundPage};
 ghost use Rattle.heap_page.specs.Settled.{AllSettled};
 ghost use Rattle.hot_chain.specs.Roots.{AreRows, HasSoundChains, IsLive};
 ghost use Rattle.build_leader.specs.HeapRows.{HasSoundItems, IsSoundBlock};
-ghost use Rattle.build_leader.specs.Outcome.{order_of_index};
+ghost use Rattle.build_leader.specs.Holding.{StaysSuited, Suits};
 ghost use Rattle.build_leader.specs.Reader.{IsSoundItem};
-ghost use Rattle.build_leader.specs.Scanning.{IsPageError, IsRowError, IsSameSpool, TakesPage, TakesRow, TakesRows, error_of_chains};
+ghost use Rattle.build_leader.specs.Scanning.{IsPageError, IsRowError, TakesPage, TakesRow, TakesRows, error_of_chains};
 
 use crate::row_reader::RowReader;
+use crate::sink::Sink;
 use heap_page::{PageFault, View, check_page};
 use heap_row::RowFault;
 use hot_chain::{RootFault, Roots, find_roots};
 use pg_bytes::Page;
-use spool::Spool;
 use std::alloc::Global;
 
 /// Why a block's rows weren't taken: its fault, by the item and the number of the cause, or want of
@@ -27,27 +27,27 @@ pub(crate) enum BlockError {
     Memory,
 }
 
-/// Puts the rows of the index in a block's page into a spool, by ascending item, and answers how
+/// Puts the rows of the index in a block's page into a sink, by ascending item, and answers how
 /// many they are. A page with a fault is refused with its least one, and then some of its rows may
-/// be in the spool.
+/// be in the sink.
 pub(crate) fn scan_block(
     alloc: Global,
     reader: &RowReader,
     page: &Page,
     block: u32,
-    spool: &mut Spool,
+    sink: &mut Sink,
 ) -> Result<u64, BlockError>
-    requires order { spool.old.order ≡ order_of_index reader.now.spec }
+    requires suits { Suits reader.now.spec sink.old }
     ensures refused { IfErr result (IsPageError reader.now.table reader.now.spec page.now) }
     ensures sound { OnOk result (IsSoundBlock reader.now.table reader.now.spec page.now) }
     ensures rows { IfOk result (λ count.
-        TakesPage reader.now.table reader.now.spec page.now block spool.old count spool.new) }
+        TakesPage reader.now.table reader.now.spec page.now block sink.old count sink.new) }
     ensures few { IfOk result (λ count. count < 2 ^ 16) }
-    ensures same { IsSameSpool spool.old spool.new }
+    ensures same { StaysSuited sink.old sink.new }
 {
     let view = view_of(reader, page)?;
     let roots = roots_of(alloc, reader, &view)?;
-    add_rows(alloc, reader, &view, &roots, block, spool)
+    add_rows(alloc, reader, &view, &roots, block, sink)
 }
 
 // The view of a page that has no fault by itself.
@@ -92,29 +92,29 @@ fn of_chains(fault: RootFault) -> BlockError
     }
 }
 
-// Puts what rows of a page are in the index into a spool, and answers how many they are.
+// Puts what rows of a page are in the index into a sink, and answers how many they are.
 fn add_rows(
     alloc: Global,
     reader: &RowReader,
     view: &View,
     roots: &Roots,
     block: u32,
-    spool: &mut Spool,
+    sink: &mut Sink,
 ) -> Result<u64, BlockError>
     requires columns { view.now.columns ≡ length reader.now.table.columns }
     requires size { length view.now.bytes ≡ page_size }
     requires sound { IsSoundPage view.now.bytes (length reader.now.table.columns) }
     requires chains { HasSoundChains view.now.bytes }
     requires rows { AreRows view.now.bytes roots.now }
-    requires order { spool.old.order ≡ order_of_index reader.now.spec }
+    requires suits { Suits reader.now.spec sink.old }
     ensures refused { IfErr result (IsPageError reader.now.table reader.now.spec view.now.bytes) }
     ensures sound { OnOk result
         (HasSoundItems reader.now.table reader.now.spec view.now.bytes) }
     ensures rows { IfOk result (λ count.
         TakesRows reader.now.table reader.now.spec view.now.bytes block roots.now
-        spool.old count spool.new) }
+        sink.old count sink.new) }
     ensures few { IfOk result (λ count. count < 2 ^ 16) }
-    ensures same { IsSameSpool spool.old spool.new }
+    ensures same { StaysSuited sink.old sink.new }
 {
     let mut count = 0;
     for i in 0..roots.rows() {
@@ -125,7 +125,7 @@ fn add_rows(
             roots.item(i),
             block,
             roots.root(i),
-            spool,
+            sink,
         )? {
             count += 1;
         }
@@ -133,7 +133,7 @@ fn add_rows(
     Ok(count)
 }
 
-// Puts a row of a page into a spool, unless WHERE leaves it out, and answers whether it was put.
+// Puts a row of a page into a sink, unless WHERE leaves it out, and answers whether it was put.
 fn add_row(
     alloc: Global,
     reader: &RowReader,
@@ -141,23 +141,23 @@ fn add_row(
     item: u16,
     block: u32,
     root: u16,
-    spool: &mut Spool,
+    sink: &mut Sink,
 ) -> Result<bool, BlockError>
     requires live { IsLive view.now.bytes item }
     requires columns { view.now.columns ≡ length reader.now.table.columns }
     requires size { length view.now.bytes ≡ page_size }
-    requires order { spool.old.order ≡ order_of_index reader.now.spec }
+    requires suits { Suits reader.now.spec sink.old }
     ensures refused { IfErr result
         (IsRowError reader.now.table reader.now.spec view.now.bytes item) }
     ensures sound { OnOk result
         (IsSoundItem reader.now.table reader.now.spec view.now.bytes item) }
     ensures row { IfOk result (λ put.
         TakesRow reader.now.table reader.now.spec view.now.bytes block
-        (record { item = item; root = root }) spool.old put spool.new) }
-    ensures same { IsSameSpool spool.old spool.new }
+        (record { item = item; root = root }) sink.old put sink.new) }
+    ensures same { StaysSuited sink.old sink.new }
 {
     match reader.record(alloc, view, item, block, root) {
-        Ok(Some(record)) => match spool.put(record) {
+        Ok(Some(record)) => match sink.put(record) {
             Ok(()) => Ok(true),
             Err(_) => Err(BlockError::Memory),
         },

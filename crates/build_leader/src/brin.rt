@@ -41,19 +41,19 @@ pub(crate) fn pack_ranges(
         (told_ranges spec.now blocks (flat_map (λ part. part) parts))) }
 {
     let columns = spec.keys.len() as u16;
-    let count = count_of(spec.pages_per_range, blocks);
+    let count = count_ranges(spec, blocks);
     let summaries = united(alloc, columns, count, parts)?;
     pack(alloc, kinds, spec.pages_per_range, &summaries)
 }
 
-// How many ranges so many blocks have.
-fn count_of(pages_per_range: u32, blocks: u32) -> u32
-    requires some_pages { 1 ≤ pages_per_range }
-    requires few_pages { pages_per_range ≤ 131072 }
+/// How many ranges so many blocks have.
+pub(crate) fn count_ranges(spec: &IndexSpec, blocks: u32) -> u32
+    requires some_pages { 1 ≤ spec.now.pages_per_range }
+    requires few_pages { spec.now.pages_per_range ≤ 131072 }
     requires blocks { blocks ≤ most_blocks }
-    ensures { result ≡ range_count pages_per_range blocks }
+    ensures { result ≡ range_count spec.now.pages_per_range blocks }
 {
-    (blocks + (pages_per_range - 1)) / pages_per_range
+    (blocks + (spec.pages_per_range - 1)) / spec.pages_per_range
 }
 
 // What parts tell of each of so many ranges.

@@ -2,22 +2,21 @@ ghost use Rattle.std.specs.Prelude.{IfErr, IfOk};
 ghost use Rattle.build_leader.specs.Calls.{IsBuilt, IsLeadFault, IsOpenedFor, IsPlan};
 
 use crate::built::Built;
-use crate::columns::{kinds_of, order_of};
 use crate::fault::LeadFault;
 use crate::gate::Gate;
-use crate::merging::merge_tapes;
-use crate::packing::pack;
 use crate::plan::Plan;
 use crate::scan::scan_heap;
 use crate::scanned::Scanned;
+use crate::taken::pack_taken;
 use block_claim::{Scan, ScanSeat};
 use std::alloc::Global;
 use std::thread::Threads;
 
-/// Builds an index over a heap (`btbuild` of `nbtsort.c`): scans it, merges what the workers have
-/// in the order of the index, and packs it. An error is the heap's first fault; or, of a unique
-/// index over a heap without one, the first two neighbours in that order that break its rule; or
-/// want of memory.
+/// Builds an index over a heap (`btbuild` of `nbtsort.c`, `brinbuild` of `brin.c`, `ginbuild` of
+/// `gininsert.c`): scans it and packs what the workers have of its rows. An error is the heap's
+/// first fault; or, over a heap without one, the first two neighbours in the order of a unique
+/// index that break its rule, or the least range of a BRIN index whose tuple no page takes; or want
+/// of memory.
 pub fn build<Rt: Threads + Sync, G: Gate + Sync>(
     rt: &Rt,
     alloc: Global,
@@ -32,15 +31,17 @@ pub fn build<Rt: Threads + Sync, G: Gate + Sync>(
     ensures built { IfOk result (IsBuilt plan.now heap.now scan.now) }
     ensures refused { IfErr result (IsLeadFault plan.now heap.now) }
 {
-    let Scanned { tapes, seat, rows } = scan_heap(rt, alloc, heap, plan, scan, seats, gate)?;
-    let order = order_of(alloc, &plan.spec)?;
-    let kinds = kinds_of(alloc, &plan.table, &plan.spec)?;
-    let merged = merge_tapes(rt, alloc, tapes, plan.workers + 1, order)?;
-    let image = pack(alloc, &plan.spec, kinds, merged)?;
-    Ok(Built {
-        image,
+    let Scanned {
+        tapes,
+        ranges,
+        seat,
         rows,
-        pairs: rows,
+    } = scan_heap(rt, alloc, heap, plan, scan, seats, gate)?;
+    let packed = pack_taken(rt, alloc, heap, plan, tapes, ranges, rows)?;
+    Ok(Built {
+        image: packed.image,
+        rows,
+        pairs: packed.pairs,
         seat,
     })
 }

@@ -51,14 +51,15 @@ impl RangeTally {
         }
     }
 
-    /// Takes a row in. Only the last range is asked whether it has the row's block, since a worker's
-    /// blocks ascend. An error means that no memory was left, and then the tally is lost.
+    /// Takes a row in. Only the last range is asked whether it has the row's block, since a
+    /// worker's blocks ascend. An error means that no memory was left, and then the tally is lost.
     pub fn add(&mut self, row: &Record) -> Result<(), AllocError>
         requires pages { 1 ≤ self.old.pages_per_range }
         requires keys { length row.now.keys ≡ self.old.columns }
         requires columns { AreOfColumns self.old.columns self.old.ranges.items }
         ensures pages { self.new.pages_per_range ≡ self.old.pages_per_range }
         ensures columns { self.new.columns ≡ self.old.columns }
+        ensures alike { AreOfColumns self.new.columns self.new.ranges.items }
         ensures held { OnOk result ((spec : IndexSpec) (rows : List Record)
             → spec.pages_per_range ≡ self.old.pages_per_range
             → length spec.keys ≡ self.old.columns
@@ -82,8 +83,8 @@ impl RangeTally {
         ensures pages { self.new.pages_per_range ≡ self.old.pages_per_range }
         ensures columns { self.new.columns ≡ self.old.columns }
         ensures opened { OnOk result (ends_with range self.new.ranges.items ≡ true) }
-        ensures alike { OnOk result (AreOfColumns self.old.columns self.old.ranges.items
-            → AreOfColumns self.old.columns self.new.ranges.items) }
+        ensures alike { AreOfColumns self.old.columns self.old.ranges.items
+            → AreOfColumns self.old.columns self.new.ranges.items }
         ensures held { OnOk result ((spec : IndexSpec) (rows : List Record)
             → length spec.keys ≡ self.old.columns
             → HoldRanges spec rows self.old.ranges.items
@@ -113,6 +114,7 @@ impl RangeTally {
         requires columns { AreOfColumns (length row.now.keys) self.old.ranges.items }
         ensures pages { self.new.pages_per_range ≡ self.old.pages_per_range }
         ensures columns { self.new.columns ≡ self.old.columns }
+        ensures alike { AreOfColumns (length row.now.keys) self.new.ranges.items }
         ensures taken { OnOk result
             (TakesIn row.now.keys self.old.ranges.items self.new.ranges.items) }
     {

@@ -1,6 +1,6 @@
 //! How an item of the heap becomes a row of an index.
 
-ghost use Rattle.std.specs.Prelude.{◌≡◌, ◌<◌, ◌≤◌, ◌++◌, All, Contains, IfErr, IfOk, IfSome, OnOk, length, slice_get};
+ghost use Rattle.std.specs.Prelude.{◌≡◌, ◌<◌, ◌≤◌, [], ◌∷◌, ◌++◌, All, Contains, IfErr, IfOk, IfSome, OnOk, length, slice_get, take};
 ghost use Rattle.pg_bytes.specs.PageLayout.{page_size};
 ghost use Rattle.hot_chain.specs.Roots.{IsLive};
 ghost use Rattle.opclass.specs.Norm.{IsKeyValue};
@@ -10,7 +10,7 @@ ghost use Rattle.build_leader.specs.Reader.{AreAt, AreReadOrLeft, IsItemFault, I
 
 use crate::columns::kinds_of;
 use crate::plan::Plan;
-use btree_item::size_of;
+use crate::width::check_width;
 use heap_page::View;
 use heap_row::{RowFault, read_values};
 use opclass::{Columns, IndexSpec, KeyList, KeyVal, Kinds, Table, keeps, needed};
@@ -18,12 +18,6 @@ use pg_bytes::{Items, RowPtr};
 use shared_tape::Record;
 use std::alloc::{AllocError, Global};
 use std::marker::Model;
-
-/// The most bytes of an index tuple: a third of a page (`BTMaxItemSize` of `nbtree.h`).
-const MOST_TUPLE: u64 = 2704;
-
-/// The number of the cause that an index tuple is larger.
-const WIDE: u8 = 12;
 
 /// What the rows of an index are read by, made once for a scan.
 #[derive(Drop)]
@@ -77,8 +71,8 @@ impl<'a> RowReader<'a> {
     }
 
     /// The record of a live item of a block, which points to its root, or None where WHERE leaves the
-    /// item out. A value that can't be read is a fault, and so is an index tuple of more than a third
-    /// of a page (`_bt_check_third_page` of `nbtutils.c`), which is asked of a row that WHERE keeps.
+    /// item out. A value that can't be read is a fault, and so are values that are too large for the
+    /// index, which is asked of a row that WHERE keeps.
     pub fn record(
         &self,
         alloc: Global,
@@ -101,9 +95,7 @@ impl<'a> RowReader<'a> {
         let Some(mut keys) = self.values(alloc, view, item)? else {
             return Ok(None);
         };
-        if size_of(&self.kinds, &keys) > MOST_TUPLE {
-            return Err(RowFault::Value { cause: WIDE });
-        }
+        check_width(alloc, self.spec, &self.kinds, &keys)?;
         match split_off(alloc, &mut keys, self.spec.includes.len()) {
             Ok(extra) => Ok(Some(Record {
                 keys,
@@ -134,7 +126,7 @@ impl<'a> RowReader<'a> {
         if self.as_needed {
             return Ok(Some(values));
         }
-        match picked(alloc, &values, &self.places) {
+        match picked(alloc, values, &self.places) {
             Ok(picked) => Ok(Some(picked)),
             Err(_) => Err(RowFault::Memory),
         }
@@ -178,8 +170,46 @@ fn place_of(needed: &[u16], column: u16) -> usize
     }
 }
 
+// The values at these places: a value alone is moved, several are copied.
+fn picked(alloc: Global, values: KeyList, places: &[usize]) -> Result<KeyList, AllocError>
+    requires inside { All (λ place. place < length values) places.now }
+    requires keys { 2 ≤ length places.now
+        → All (λ place. IfSome (slice_get values place) IsKeyValue) places.now }
+    ensures { IfOk result (AreAt values places.now) }
+{
+    match places {
+        [] => Ok(KeyList::new(alloc)),
+        [place] => moved(alloc, values, *place),
+        _ => copied(alloc, &values, places),
+    }
+}
+
+// The value at a place, alone.
+fn moved(alloc: Global, values: KeyList, place: usize) -> Result<KeyList, AllocError>
+    requires { place < length values }
+    ensures { IfOk result (AreAt values (place ∷ [])) }
+{
+    let mut one = Vec::with_capacity(alloc, 1)?;
+    let Some(value) = cut_off(values, place + 1).pop() else {
+        unreachable!()
+    };
+    one.push_reserved(value);
+    Ok(KeyList::from_vec(one))
+}
+
+// The first so many values.
+fn cut_off(mut values: KeyList, count: usize) -> KeyList
+    requires { count ≤ length values }
+    ensures { result ≡ take count values }
+{
+    'behind: while values.len() > count {
+        values.pop();
+    }
+    values
+}
+
 // The values at these places, each copied.
-fn picked(alloc: Global, values: &KeyList, places: &[usize]) -> Result<KeyList, AllocError>
+fn copied(alloc: Global, values: &KeyList, places: &[usize]) -> Result<KeyList, AllocError>
     requires inside { All (λ place. place < length values.now) places.now }
     requires keys { All (λ place. IfSome (slice_get values.now place) IsKeyValue) places.now }
     ensures { IfOk result (AreAt values.now places.now) }

@@ -8,12 +8,13 @@ ghost use Rattle.build_leader.specs.Calls.{IsPlan};
 ghost use Rattle.build_leader.specs.Scanning.{IsScanOf};
 ghost use Rattle.build_leader.specs.Teams.{AreFreshSeats, HandsOver, IsAlone, IsTeam, TellsFault, joined_team, lesser_fault, share_of_seats};
 
-use crate::columns::order_of;
 use crate::fault::LeadFault;
 use crate::gate::Gate;
 use crate::plan::Plan;
+use crate::ranges::RangeParts;
 use crate::row_reader::RowReader;
 use crate::scanned::Scanned;
+use crate::sink::Sink;
 use crate::worker::{BlockFault, Share, scan_share};
 use block_claim::{Scan, ScanSeat};
 use pg_bytes::Items;
@@ -22,12 +23,13 @@ use std::alloc::{AllocError, Global};
 use std::thread::{Threads, join};
 
 /// Workers whose numbers follow each other, at the end of their claims: the seat into which theirs
-/// were joined, the tape of each, how many rows they have, and the fault of the least block that
-/// one of them reported.
+/// were joined, the tape of each and its ranges, how many rows they have, and the fault of the
+/// least block that one of them reported.
 #[derive(Drop)]
 pub(crate) struct Team {
     pub seat: ScanSeat,
     pub tapes: Tapes,
+    pub ranges: RangeParts,
     pub rows: u64,
     pub fault: Option<BlockFault>,
 }
@@ -80,7 +82,7 @@ pub(crate) fn scan_team<Rt: Threads + Sync, G: Gate + Sync>(
     team?.joined(scan, one?)
 }
 
-// One worker's scan: it makes its reader and its spool itself.
+// One worker's scan: it makes its reader and its sink itself.
 fn scan_alone<G: Gate>(
     alloc: Global,
     heap: &[u8],
@@ -96,28 +98,32 @@ fn scan_alone<G: Gate>(
     ensures share { IfOk result (λ team. team.seat.view.share ≡ seat.view.share) }
 {
     let reader = RowReader::of(alloc, plan)?;
-    let order = order_of(alloc, &plan.spec)?;
-    let begun = Share::new(alloc, seat, plan.run_rows, order);
+    let sink = Sink::of(alloc, plan)?;
+    let begun = Share::new(seat, sink);
     let share = scan_share(alloc, &reader, heap, scan, begun, gate)?;
     Team::of(alloc, share)
 }
 
 impl Team {
-    // One worker, whose rows go onto a tape.
+    // One worker, of which a tape and ranges are left.
     fn of(alloc: Global, share: Share) -> Result<Team, AllocError>
         ensures { IfOk result (IsAlone share) }
     {
         let Share {
             seat,
-            spool,
+            sink,
             rows,
             fault,
         } = share;
         let mut tapes = Vec::with_capacity(alloc, 1)?;
-        tapes.push_reserved(spool.finish()?);
+        let mut ranges = Vec::with_capacity(alloc, 1)?;
+        let (tape, summed) = sink.finish(alloc)?;
+        tapes.push_reserved(tape);
+        ranges.push_reserved(summed);
         Ok(Team {
             seat,
             tapes: Items::from_vec(tapes),
+            ranges: Items::from_vec(ranges),
             rows,
             fault,
         })
@@ -135,17 +141,20 @@ impl Team {
     {
         let mut tapes = self.tapes.into_vec();
         tapes.append(&mut next.tapes.into_vec())?;
+        let mut ranges = self.ranges.into_vec();
+        ranges.append(&mut next.ranges.into_vec())?;
         let mut seat = self.seat;
         scan.join(&mut seat, next.seat);
         Ok(Team {
             seat,
             tapes: Items::from_vec(tapes),
+            ranges: Items::from_vec(ranges),
             rows: self.rows + next.rows,
             fault: lesser(self.fault, next.fault),
         })
     }
 
-    /// The workers' rows on their tapes, unless one of them found a fault.
+    /// What the workers have of their rows, unless one of them found a fault.
     pub fn hand_over(self) -> Result<Scanned, LeadFault>
         ensures scanned { IfOk result (HandsOver self) }
         ensures refused { IfErr result (TellsFault self) }
@@ -153,11 +162,17 @@ impl Team {
         let Team {
             seat,
             tapes,
+            ranges,
             rows,
             fault,
         } = self;
         match fault {
-            None => Ok(Scanned { tapes, seat, rows }),
+            None => Ok(Scanned {
+                tapes,
+                ranges,
+                seat,
+                rows,
+            }),
             Some(BlockFault { block, item, cause }) => Err(LeadFault::Row { block, item, cause }),
         }
     }

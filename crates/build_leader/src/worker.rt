@@ -10,10 +10,9 @@ ghost use Rattle.build_leader.specs.Scanning.{IsBetweenClaims, IsOneClaimMore, I
 use crate::block::{BlockError, scan_block};
 use crate::gate::Gate;
 use crate::row_reader::RowReader;
+use crate::sink::Sink;
 use block_claim::{Scan, ScanSeat};
-use opclass::SortSpec;
 use pg_bytes::{PAGE, Page};
-use spool::Spool;
 use std::alloc::{AllocError, Global};
 
 /// The fault of a block of the heap.
@@ -24,25 +23,24 @@ pub(crate) struct BlockFault {
     pub cause: u8,
 }
 
-/// A worker's part of a scan: its seat, the rows of its blocks and how many they are, and the fault
-/// of the least block that it reported. All of it changes threads by a move.
+/// A worker's part of a scan: its seat, what the rows of its blocks went into and how many they are,
+/// and the fault of the least block that it reported. All of it changes threads by a move.
 #[derive(Drop)]
 pub(crate) struct Share {
     pub seat: ScanSeat,
-    pub spool: Spool,
+    pub sink: Sink,
     pub rows: u64,
     pub fault: Option<BlockFault>,
 }
 
 impl Share {
     /// What a worker begins with.
-    pub fn new(alloc: Global, seat: ScanSeat, run_rows: u32, order: SortSpec) -> Share
-        requires { 1 ≤ run_rows }
-        ensures { result ≡ begun_with seat run_rows order }
+    pub fn new(seat: ScanSeat, sink: Sink) -> Share
+        ensures { result ≡ begun_with seat sink }
     {
         Share {
             seat,
-            spool: Spool::new(alloc, run_rows, order),
+            sink,
             rows: 0,
             fault: None,
         }
@@ -157,13 +155,7 @@ fn scan_one(
     if u64::from(block) > share.seat.seen() {
         return Ok(());
     }
-    match scan_block(
-        alloc,
-        reader,
-        &page_at(heap, block),
-        block,
-        &mut share.spool,
-    ) {
+    match scan_block(alloc, reader, &page_at(heap, block), block, &mut share.sink) {
         Ok(rows) => share.rows += rows,
         Err(BlockError::Fault { item, cause }) => {
             scan.report(&mut share.seat, block);

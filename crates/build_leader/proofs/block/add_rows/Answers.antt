@@ -1,6 +1,7 @@
-use Rattle.std.proofs.Common.{◌+◌, ◌<◌, ℕ, Bool, true, false, length, sym, subst, ◌∙◌, arith, take}
+use Rattle.std.proofs.Common.{◌+◌, ◌<◌, ℕ, Bool, true, false, length, sym, subst, arith, take}
 use Rattle.std.proofs.lemmas.Result.{err_from_is_err_and}
 use Rattle.build_leader.specs.Scanning.{TakesRow, TakesRows}
+use Rattle.build_leader.proofs.Held.{stays_both, stays_suited}
 use Rattle.build_leader.proofs.Rows.{page_error, sound_more, takes_more}
 use Rattle.build_leader.proofs.block.add_rows.Goals as goal
 use Rattle.build_leader.proofs.block.add_rows.Goals.{then-branch, else-branch}
@@ -19,15 +20,12 @@ loop-i-preserved c =
     let t = c.args.reader.now.table in
     let s = c.args.reader.now.spec in
     let page = c.args.view.now.bytes in
-    let old = c.args.spool.now in
-    let mid = c.loop-i.spool in
-    let new = c.add_row.new.spool in
+    let old = c.args.sink.now in
+    let mid = c.loop-i.sink in
+    let new = c.add_row.new.sink in
     let inside : c.loop-i.i < length c.args.roots.now = omega arith in
     record {
-      same = record {
-        run_rows = c.add_row.ensures.same.run_rows ∙ c.loop-i.invariant.same.run_rows;
-        order = c.add_row.ensures.same.order ∙ c.loop-i.invariant.same.order;
-      };
+      same = stays_both old mid new c.loop-i.invariant.same c.add_row.ensures.same;
       taken = elim c.if-branch.branch [
         | then-branch w ↦
             subst (λ (n : ℕ). TakesRows t s page c.args.block (take (c.loop-i.i + 1) c.args.roots.now) old n new) (sym w.count-is)
@@ -46,3 +44,11 @@ loop-i-preserved c =
         | else-branch w ↦ let few = c.loop-i.invariant.few in omega (arith, w.count-is, few)
       ];
     }
+
+pub add_row-requires-clause-suits : goal.add_row-requires-clause-suits
+add_row-requires-clause-suits c =
+    stays_suited c.args.reader.now.spec c.args.sink.now c.loop-i.sink c.loop-i.invariant.same c.requires.suits
+
+pub returns-in_err-add_row-clause-same : goal.returns-in_err-add_row-clause-same
+returns-in_err-add_row-clause-same c =
+    stays_both c.args.sink.now c.loop-i.sink c.add_row.new.sink c.loop-i.invariant.same c.add_row.ensures.same

@@ -1,4 +1,4 @@
-use Rattle.std.proofs.Common.{◌≡◌, ℕ, ◌+◌, IsPermutation, ap, subst, sym, ◌∙◌}
+use Rattle.std.proofs.Common.{ℕ, ◌+◌, IsPermutation, ap, subst, sym, ◌∙◌}
 use Rattle.run_merge.specs.Sorted.{all_records}
 use Rattle.build_leader.specs.Merging.{AreParts}
 use Rattle.build_leader.proofs.Parts.{order_is, parts_law, same_records, stand_in_order}

@@ -1,4 +1,4 @@
-use Rattle.std.proofs.Common.{◌≡◌, ◌∙◌, Bool, refl, sym, subst}
+use Rattle.std.proofs.Common.{◌∙◌, Bool, refl, sym, subst}
 use Rattle.std.proofs.lemmas.Result.{err_from_is_err_and}
 use Rattle.shared_tape.specs.declared.stored.Record.{Record}
 use Rattle.run_merge.specs.Merging.{GivesInto, GivesOne}

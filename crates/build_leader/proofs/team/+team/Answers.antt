@@ -1,4 +1,4 @@
-use Rattle.std.proofs.Common.{rules, ◌≡◌, ℕ, ◌+◌, [], ◌∷◌, length, ◌∙◌, ap, subst, sym, arith}
+use Rattle.std.proofs.Common.{rules, ◌≡◌, ℕ, [], ◌∷◌, length, ◌∙◌, ap, subst, sym, arith}
 use Rattle.std.specs.Prelude.{IfOk, nat_eq, vec_len}
 use Rattle.std.specs.Result.{result_from_control_flow}
 use Rattle.std.proofs.lemmas.Bool.{eqb-true}

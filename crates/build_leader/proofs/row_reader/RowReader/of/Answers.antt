@@ -20,7 +20,7 @@ invariant_of-result c =
     let t = c.args.plan.now.table in
     let s = c.args.plan.now.spec in
     record {
-      tree = record { table_is = c.requires.table; over = c.requires.index; method = c.requires.method };
+      index = record { table_is = c.requires.table; over = c.requires.index };
       needed = same_needed t s c.requires.index c.in_ok-needed.needed c.in_ok-needed.ensures;
       kinds = c.in_ok-kinds_of.ensures;
       places =

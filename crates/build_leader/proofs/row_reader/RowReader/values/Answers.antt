@@ -1,4 +1,4 @@
-use Rattle.std.proofs.Common.{◌<◌, ℕ, List, length, slice_get, sym, subst, All, rules}
+use Rattle.std.proofs.Common.{◌<◌, ◌≤◌, ℕ, List, length, slice_get, sym, subst, All, rules}
 use Rattle.std.specs.Prelude.{IfSome}
 use Rattle.std.proofs.lemmas.Result.{err_from_is_err_and}
 use Rattle.opclass.specs.Norm.{IsKeyValue}
@@ -31,10 +31,11 @@ picked-requires-clause-inside c =
     (are_inside c.self.inside c.self.invariant (length c.args.view.now.bytes) values c.in_ok-values.ensures.typed)
 
 pub picked-requires-clause-keys : goal.picked-requires-clause-keys
-picked-requires-clause-keys c =
+picked-requires-clause-keys c = λ several.
     let values = c.in_ok-values.values in
     subst (λ (places : List ℕ). All (λ place. IfSome (slice_get values place) IsKeyValue) places) (sym c.deref.ensures.value)
-    (are_keys c.self.inside c.self.invariant (length c.args.view.now.bytes) values c.in_ok-values.ensures.typed)
+    (are_keys c.self.inside c.self.invariant (length c.args.view.now.bytes) values c.in_ok-values.ensures.typed
+    (subst (λ (places : List ℕ). 2 ≤ length places) c.deref.ensures.value several))
 
 pub returns-in-Ok-clause-values : goal.returns-in-Ok-clause-values
 returns-in-Ok-clause-values c =

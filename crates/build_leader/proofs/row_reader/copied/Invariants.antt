@@ -1,6 +1,6 @@
 use Rattle.std.proofs.Common.{◌≡◌, ◌≤◌, length, take, vec_capacity, vec_len}
 use Rattle.build_leader.specs.Reader.{AreAt}
-use Rattle.build_leader.proofs.row_reader.picked.Given as goal
+use Rattle.build_leader.proofs.row_reader.copied.Given as goal
 
 abbrev pub invariant-loop-place : goal.invariant-loop-place
 invariant-loop-place l = record {
