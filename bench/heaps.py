@@ -110,6 +110,69 @@ def page(lines):
     return bytes(body)
 
 
+def short_datum(content):
+    """A value of variable width under a header of one byte."""
+    return bytes([2 * (len(content) + 1) + 1]) + content
+
+
+def long_datum(content):
+    """The same under a header of four bytes, as at the begin of a tuple's data."""
+    return struct.pack("<I", 4 * (len(content) + 4)) + content
+
+
+def array_content(oid, elements, datum):
+    """The content of an array of elements of a type with this oid, None for a null, behind an array's header.
+
+    `datum` makes an element's bytes, which here begin at multiples of 4.
+    """
+    if not elements:
+        return struct.pack("<iiI", 0, 0, oid)
+    there = [element is not None for element in elements]
+    bitmap = b""
+    if not all(there):
+        bits = sum(1 << at for at, is_there in enumerate(there) if is_there)
+        bitmap = bits.to_bytes((len(elements) + 7) // 8, "little")
+    place = (24 + len(bitmap) + 7) // 8 * 8
+    content = struct.pack("<iiIii", 1, place if bitmap else 0, oid, len(elements), 1)
+    content += bitmap + bytes(place - 24 - len(bitmap))
+    for element in elements:
+        if element is not None:
+            one = datum(element)
+            content += one + bytes(-len(one) % 4)
+    return content
+
+
+def int4_array(*elements):
+    """An int4[] of a few elements as it stands in a tuple."""
+    return short_datum(array_content(23, elements, lambda number: struct.pack("<i", number)))
+
+
+def text_array(*elements):
+    """A text[] as it stands at the begin of a tuple's data, however long."""
+    return long_datum(array_content(25, elements, long_datum))
+
+
+def null_row(item):
+    """A live row whose one column is null."""
+    return Tuple(item=item, data=b"", bitmap=b"\0")
+
+
+def data_page(rows):
+    """A page of live rows with these data, None for a row whose one column is null."""
+    lines = enumerate(rows, 1)
+    return page([null_row(item) if data is None else Tuple(item=item, data=data) for item, data in lines])
+
+
+# Rows {1} of a page: 4 bytes of line pointer and 56 of tuple each.
+ARRAYS_ON_PAGE = 136
+
+
+def array_pages(count):
+    """Pages of so many rows {1}, as many on each as fit."""
+    for first in range(0, count, ARRAYS_ON_PAGE):
+        yield data_page([int4_array(1)] * min(ARRAYS_ON_PAGE, count - first))
+
+
 def heap_only_chain(first, length, key):
     """A chain of dead heap-only tuples under the line pointers from a number on: each one's updater inserted the next."""
     for step in range(length):

@@ -5,6 +5,7 @@ from __future__ import annotations
 import struct
 from dataclasses import dataclass, field
 
+from model_page import pointer_bytes, with_header
 from model_statements import Index, Table, Type
 from model_values import aligned
 
@@ -31,11 +32,6 @@ class Row:
     """The keys, and behind them the INCLUDE values."""
     pointer: tuple
     """Block and offset number."""
-
-
-def pointer_bytes(pointer: tuple) -> bytes:
-    block, offset = pointer
-    return struct.pack("<HHH", block >> 16, block & 0xFFFF, offset)
 
 
 def with_value(data: bytes, kind: Type, value: object) -> bytes:
@@ -230,13 +226,6 @@ class Level:
     """The item whose arrival finishes each page but the last."""
     blocks: dict = field(default_factory=dict)
     """The pages' blocks."""
-
-
-def with_header(fields: bytes, body: bytes, special: bytes) -> bytes:
-    """A page of the bytes behind its header, those before its special space, and the latter."""
-    lower, upper = 24 + len(fields), SPECIAL - len(body)
-    header = struct.pack("<12xHHHHI", lower, upper, SPECIAL, 0x2004, 0)
-    return header + fields + bytes(upper - lower) + body + special
 
 
 def node(tuples: list[bytes], high_key: bytes | None, special: bytes) -> bytes:

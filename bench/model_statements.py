@@ -341,6 +341,7 @@ class Index:
     includes: list = field(default_factory=list)
     fill_factor: int = 90
     deduplicate: bool = True
+    pages_per_range: int = 128
     conditions: list = field(default_factory=list)
 
     def columns(self) -> list[int]:
@@ -468,6 +469,8 @@ class IndexReader(Reader):
             raise Refused(token.place, 6)
         if option == "fillfactor":
             self.index.fill_factor = value
+        elif option == "pages_per_range":
+            self.index.pages_per_range = value
         elif option == "deduplicate_items":
             self.index.deduplicate = truths[value]
 

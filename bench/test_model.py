@@ -10,7 +10,10 @@ sys.dont_write_bytecode = True
 
 import heaps
 import model
+import model_gin
+import model_gin_file
 import model_heap
+import model_statements
 
 # The answer to a heap without a fault.
 SOUND = None
@@ -41,6 +44,19 @@ def roots_of(lines):
 
 # The int4 5, and an empty array of int8 under a short header.
 FIVE_AND_INT8_ARRAY = "05 00 00 00 1b 00 00 00 00 00 00 00 00 14 00 00 00"
+
+
+ARRAYS_TABLE = "CREATE TABLE t (c int4[])"
+GIN = "CREATE INDEX i ON t USING gin (c)"
+
+RANGES = b"".join(
+    [
+        *(page for key in (5, -2, 9) for page in heaps.live_pages([key])),
+        heaps.page([heaps.Tuple(item=1, infomask=heaps.DELETED)]),
+        bytes(2 * heaps.PAGE),
+        heaps.data_page([None]),
+    ]
+)
 
 
 def text_heap(length):
@@ -288,6 +304,119 @@ class Model(unittest.TestCase):
         ]:
             index = with_bytes(index, place, text)
         self.assertEqual(model.answer(heaps.sample_page()).index, bytes(index))
+
+    def assert_bytes(self, file, pieces):
+        """That a file has these bytes at these places."""
+        for place, text in pieces:
+            piece = bytes.fromhex(text)
+            self.assertEqual(file[place : place + len(piece)].hex(" "), piece.hex(" "), place)
+
+    def test_ranges(self):
+        """Values, a dead row before new blocks, and a null, in ranges of three blocks."""
+        statement = "CREATE INDEX i ON t USING brin (a) WITH (pages_per_range=3)"
+        told = model.answer(RANGES, index=statement)
+        self.assertEqual((told.rows, len(told.index)), (4, 3 * heaps.PAGE))
+        self.assert_bytes(told.index, [
+            (12, "28 00 f8 1f f8 1f 04 20"),
+            (24, "fa 9c 10 a8 01 00 00 00 03 00 00 00 01 00 00 00"),
+            (8184, "00 00 00 00 00 00 91 f0"),
+            (8192 + 12, "18 00 f8 1f f8 1f 04 20"),
+            (8192 + 24, "00 00 02 00 01 00 00 00 02 00 02 00 00 00 02 00 03 00 00 00 00 00"),
+            (8192 + 8184, "00 00 00 00 00 00 92 f0"),
+            (2 * 8192 + 12, "24 00 d8 1f f8 1f 04 20"),
+            (2 * 8192 + 8152, "06 00 00 00 88 03 00 00 03 00 00 00 a8 01 00 00"),
+            (2 * 8192 + 8168, "00 00 00 00 08 00 00 00 fe ff ff ff 09 00 00 00"),
+            (2 * 8192 + 8184, "00 00 00 00 00 00 93 f0"),
+        ])  # fmt: skip
+
+    def test_many_ranges(self):
+        """1,361 new blocks, a range each."""
+        statement = "CREATE INDEX i ON t USING brin (a) WITH (pages_per_range=1)"
+        index = model.answer(bytes(1361 * heaps.PAGE), index=statement).index
+        self.assertEqual(len(index), 6 * heaps.PAGE)
+        self.assert_bytes(index, [
+            (36, "02 00 00 00"),
+            (2 * 8192 + 24, "00 00 05 00 01 00 00 00"),
+            (3 * 8192 + 12, "b8 0a b8 0a"),
+            (4 * 8192 + 12, "b8 0a b8 0a"),
+            (5 * 8192 + 12, "1c 00 f0 1f"),
+        ])  # fmt: skip
+
+    def test_wide_ranges(self):
+        table, statement = "CREATE TABLE t (a text)", "CREATE INDEX i ON t USING brin (a)"
+        for length, wanted in [(4063, ""), (4071, "range 0 too wide: 8160 bytes")]:
+            with self.subTest(length):
+                texts = (4069 * b"a", length * b"b")
+                heap = b"".join(heaps.data_page([heaps.long_datum(text)]) for text in texts)
+                self.assertEqual(model.answer(heap, table, statement).error, wanted)
+
+    def test_entries(self):
+        """Two keys, a null among elements, an empty array and a null."""
+        arrays = heaps.int4_array(5, 5, 1), heaps.int4_array(), None, heaps.int4_array(None, 1)
+        told = model.answer(heaps.data_page(arrays), ARRAYS_TABLE, GIN)
+        self.assertEqual(told.rows, 4)
+        self.assertEqual(list(told.index.map.items()), [
+            ((0, 1), [(0, 1), (0, 4)]), ((0, 5), [(0, 1)]), ((1, None), [(0, 4)]),
+            ((2, None), [(0, 2)]), ((3, None), [(0, 3)]),
+        ])  # fmt: skip
+
+    def test_reading_of_tuples(self):
+        """The tuple of the key 1 at (0,1) and (0,4), and that of the nulls among elements at (0,4)."""
+        file = model_gin_file.File(b"", model_statements.TYPES["int4[]"])
+        key = "00 80 10 00 02 00 20 00 01" + 11 * " 00" + " 01 00 01 00 03" + 7 * " 00"
+        null = "00 80 12 00 01 00 20 80" + 8 * " 00" + " 01 00 00 00 00 00 04" + 9 * " 00"
+        for text, wanted in [(key, ((0, 1), [(0, 1), (0, 4)])), (null, ((1, None), [(0, 4)]))]:
+            with self.subTest(text):
+                self.assertEqual(file.posting_of(bytes.fromhex(text)), wanted)
+
+    def test_segments(self):
+        cases = [
+            ("00 00 00 00 04 00 00 00", [(0, 4)]),
+            ("00 00 00 00 01 00 01 00 03 00", [(0, 1), (0, 4)]),
+            ("00 00 00 00 02 00 02 00 80 01", [(0, 2), (0, 130)]),
+            ("00 00 00 00 02 00 07 00 80 80 80 80 80 80 01 00", [(0, 2), (2147483648, 2)]),
+        ]
+        for text, pointers in cases:
+            with self.subTest(text):
+                data = bytes.fromhex(text)
+                self.assertEqual(model_gin_file.segment_at(data, 0), (pointers, len(data)))
+                self.assertEqual(model_gin_file.segment_bytes(pointers), len(data))
+
+    def test_broken_segments(self):
+        for text in [
+            "00 00 00 00 01 00 01 00 00 00",
+            "00 00 00 00 01 00 02 00 83 00",
+            "00 00 00 00 01 00 01 00 03 01",
+            "00 00 00 00 01 00 01 00 03",
+            "00 00 00 00 01 00 01 00 83 00",
+        ]:
+            with self.subTest(text), self.assertRaises(model_gin_file.Unreadable):
+                model_gin_file.segment_at(bytes.fromhex(text), 0)
+
+    def test_length_of_lists(self):
+        for count, size in [(2670, 2696), (2671, 2698)]:
+            heap = b"".join(heaps.array_pages(count))
+            (pointers,) = model.answer(heap, ARRAYS_TABLE, GIN).index.map.values()
+            with self.subTest(count):
+                self.assertEqual(len(pointers), count)
+                self.assertEqual(model_gin_file.segment_bytes(pointers), size)
+
+    def test_long_elements(self):
+        for length, wanted in [(2700, ""), (2701, "heap block 0 item 1: cause 13")]:
+            with self.subTest(length):
+                heap = heaps.data_page([heaps.text_array(length * b"x")])
+                told = model.answer(heap, "CREATE TABLE t (c text[])", GIN)
+                self.assertEqual(told.error, wanted)
+
+    def test_size_of_entries(self):
+        kinds = model_statements.TYPES
+        for kind, key, size in [
+            ("int4[]", 7, 16), ("int8[]", -7, 16), ("text[]", 7 * b"x", 16),
+            ("text[]", 126 * b"x", 136), ("text[]", 127 * b"x", 144), ("text[]", 2700 * b"x", 2712),
+        ]:  # fmt: skip
+            with self.subTest(f"{kind} {size}"):
+                self.assertEqual(model_gin.list_place(kinds[kind], (0, key)), size)
+        self.assertEqual(model_gin.list_place(kinds["int4[]"], (3, None)), 18)
 
     def test_index_without_rows(self):
         index = model.answer(b"").index
