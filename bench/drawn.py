@@ -158,19 +158,28 @@ FILL_FACTORS = ("10", "10", "50", "'70'", "100", "33")
 TRUTHS = ("off", "on", "FALSE", "'True'")
 
 
-def options_of(chance: random.Random) -> str:
+RANGES = ("1", "1", "2", "3", "'7'", "128", "131072")
+
+# Each option by its method, how often it is there, and its values.
+OPTIONS = {
+    "btree": [("fillfactor", 0.5, FILL_FACTORS), ("deduplicate_items", 0.3, TRUTHS)],
+    "brin": [("pages_per_range", 0.8, RANGES)],
+    "gin": [("fastupdate", 0.3, TRUTHS)],
+}
+
+
+def options_of(chance: random.Random, method: str) -> str:
     """WITH and its options, where some are drawn."""
-    options = []
-    if chance.random() < 0.5:
-        options.append(f"fillfactor = {chance.choice(FILL_FACTORS)}")
-    if chance.random() < 0.3:
-        options.append(f"deduplicate_items = {chance.choice(TRUTHS)}")
+    options = [
+        f"{name} = {chance.choice(values)}"
+        for name, often, values in OPTIONS[method]
+        if chance.random() < often
+    ]
     return f" WITH ({', '.join(chance.sample(options, len(options)))})" if options else ""
 
 
-def index_of(chance: random.Random, kinds: list[Type]) -> str:
-    named = list(zip(NAMES, kinds))
-    allowed = [name for name, kind in named if "btree" in kind.methods]
+def btree_of(chance: random.Random, allowed: list[str]) -> str:
+    """An index by B-tree over some of these columns, up to its options."""
     taken = chance.choices(allowed, k=chance.randint(1, 3))
     keys = [name + chance.choice(ORDERS) for name in taken]
     unique = chance.random() < 0.2
@@ -180,7 +189,18 @@ def index_of(chance: random.Random, kinds: list[Type]) -> str:
         text += f" INCLUDE ({', '.join(chance.choices(allowed, k=chance.randint(1, 2)))})"
     if unique and chance.random() < 0.5:
         text += chance.choice((" NULLS DISTINCT", " NULLS NOT DISTINCT"))
-    text += options_of(chance)
+    return text
+
+
+def index_of(chance: random.Random, kinds: list[Type], method: str) -> str:
+    named = list(zip(NAMES, kinds))
+    allowed = [name for name, kind in named if method in kind.methods]
+    if method == "btree":
+        text = btree_of(chance, allowed)
+    else:
+        keys = chance.choices(allowed, k=1 if method == "gin" else chance.randint(1, 3))
+        text = f"CREATE INDEX i ON t USING {method} ({', '.join(keys)})"
+    text += options_of(chance, method)
     if chance.random() < 0.3:
         chosen = chance.choices(named, k=chance.choice((1, 1, 2)))
         text += " WHERE " + " AND ".join(condition_of(chance, name, kind) for name, kind in chosen)
@@ -198,6 +218,41 @@ def tall() -> Drawn:
     return Drawn(b"".join(pages), "CREATE TABLE t (a text)", index)
 
 
+GIN = "CREATE INDEX i ON t USING gin (c)"
+
+
+def tall_arrays() -> Drawn:
+    """An entry tree of three levels: 400 texts of 1,204 bytes."""
+    texts = [b"%04d" % (k * 7 % 400) + 1200 * b"x" for k in range(400)]
+    rows = [heaps.text_array(text) for text in texts]
+    pages = [heaps.data_page(rows[first : first + 6]) for first in range(0, 400, 6)]
+    return Drawn(b"".join(pages), "CREATE TABLE t (c text[])", GIN)
+
+
+def long_list() -> Drawn:
+    """A posting tree of two levels: 20,000 rows of one entry."""
+    return Drawn(b"".join(heaps.array_pages(20000)), "CREATE TABLE t (c int4[])", GIN)
+
+
+def wide_texts(chance: random.Random) -> Drawn:
+    """Texts about as long as a range of a BRIN index takes two of them."""
+    lengths = (20, 4050, 4063, 4065, 4067, 4069, 4071)
+    rows = [chance.choice(lengths) * chance.choice((b"a", b"b", b"c")) for _ in range(8)]
+    pages = [heaps.data_page([heaps.long_datum(text)]) for text in rows]
+    index = f"CREATE INDEX i ON t USING brin (a) WITH (pages_per_range = {chance.choice((1, 2, 3))})"
+    return Drawn(b"".join(pages), "CREATE TABLE t (a text)", index)
+
+
+def wide_elements(chance: random.Random) -> Drawn:
+    """Elements about as long as a GIN index takes them."""
+    rows = [
+        heaps.text_array(b"a", chance.choice((2691, 2692, 2693, 2699, 2700, 2700, 2701)) * letter)
+        for letter in chance.sample((b"a", b"b", b"c", b"d", b"e"), chance.randint(1, 3))
+    ]
+    heap = b"".join(heaps.data_page([row]) for row in rows)
+    return Drawn(heap, "CREATE TABLE t (c text[])", GIN)
+
+
 # What a statement is broken with.
 BITS = ("(", ")", "[", "]", ",", ";", "$", "'", '"', "::", "-", "=", "", " ")
 BITS += ("NULL", "unique", "include", "asc", "0", "10", "t", "a", "x", "C")
@@ -212,14 +267,26 @@ def broken(chance: random.Random, statement: str) -> str:
     return statement[:at] + chance.choice((" ", "", "")) + chance.choice(BITS) + statement[end:]
 
 
+# Types of a key, of which one is put where no column has one of its method.
+KEYS = {
+    "btree": ("int4", "text", "int8"),
+    "brin": ("int4", "text", "uuid"),
+    "gin": ("int4[]", "int8[]", "text[]"),
+}
+
+
 def drawn(chance: random.Random) -> Drawn:
     """A table of some columns, one of them a key at least, its rows, and an index over it."""
+    rare = chance.random()
+    if rare < 0.03:
+        return wide_texts(chance) if rare < 0.015 else wide_elements(chance)
     kinds = [chance.choice(list(TYPES.values())) for _ in range(chance.randint(1, len(NAMES)))]
-    if not any("btree" in kind.methods for kind in kinds):
-        kinds[chance.randrange(len(kinds))] = TYPES[chance.choice(("int4", "text", "int8"))]
+    method = chance.choice(("btree", "btree", "brin", "gin"))
+    if not any(method in kind.methods for kind in kinds):
+        kinds[chance.randrange(len(kinds))] = TYPES[chance.choice(KEYS[method])]
     rows = chance.choice((0, 3, 40, 300, chance.randrange(1200), chance.randrange(4000), 4000))
     long = chance.choice((0.02, 0.02, 0.02, 0.6))
-    table, index = table_of(chance, kinds), index_of(chance, kinds)
+    table, index = table_of(chance, kinds), index_of(chance, kinds, method)
     rare = chance.random()
     if rare < 0.1:
         table = broken(chance, table)
