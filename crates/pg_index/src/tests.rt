@@ -3,9 +3,13 @@
 // cause has a case, and the tables are of what comes behind: the words, the heap's blocks together,
 // the index file byte for byte, the unique rule, the claims, the outside, and the texts.
 
+mod brin_indexes;
 mod claims;
 mod ends;
 mod faults_of_the_outside;
+mod gin_indexes;
+mod gin_reading;
+mod gin_trees;
 mod heaps_at_fault;
 mod indexes;
 mod large_indexes;

@@ -24,6 +24,26 @@ fn has_at(bytes: &[u8], place: usize, piece: &[u8]) -> bool {
     place <= bytes.len() && bytes[place..].starts_with(piece)
 }
 
+// A block of a heap: a new page, or one with these line pointers.
+#[derive(Clone, Copy)]
+pub enum Block {
+    New,
+    Lines(&'static [Line<'static>]),
+}
+
+// A heap file of these blocks.
+pub fn heap_of_blocks(alloc: Global, blocks: &[Block]) -> Result<Vec<u8>, AllocError> {
+    let mut heap = Vec::new(alloc);
+    for block in blocks {
+        let page = match block {
+            Block::New => heap_of(alloc, &[], PAGE)?,
+            Block::Lines(lines) => heap_page(alloc, lines)?,
+        };
+        heap.extend_from_slice(&page)?;
+    }
+    Ok(heap)
+}
+
 // A heap file of live rows of so many attributes each, whose data are given, of 1 to 8 bytes: as
 // many on a page as fit there, which are 226, and the rest on the last one.
 pub fn heap_of_rows(

@@ -120,8 +120,8 @@ fn assert_answer<R: Threads + Sync + Abort>(
     Ok(())
 }
 
-// The index file of a command over this heap: that it is built, of so many rows, that the report
-// tells these and its blocks, and that the other files are as they were.
+// The index file of a command over this heap, a B-tree: that it is built, of so many rows, that the
+// report tells these and its blocks, and that the other files are as they were.
 pub fn index_built<R: Threads + Sync + Abort>(
     rt: &R,
     alloc: Global,
@@ -130,14 +130,28 @@ pub fn index_built<R: Threads + Sync + Abort>(
     heap: &[u8],
     rows: u64,
 ) -> Result<Vec<u8>, AllocError> {
+    index_built_by(rt, alloc, "btree", name, command, heap, rows)
+}
+
+// The same of an index by a method.
+pub fn index_built_by<R: Threads + Sync + Abort>(
+    rt: &R,
+    alloc: Global,
+    method: &str,
+    name: &str,
+    command: &Command,
+    heap: &[u8],
+    rows: u64,
+) -> Result<Vec<u8>, AllocError> {
     let words = words_of(alloc, command)?;
-    index_of_line(rt, alloc, name, &words, heap, rows)
+    index_of_line(rt, alloc, method, name, &words, heap, rows)
 }
 
 // The same of a command line.
 fn index_of_line<R: Threads + Sync + Abort>(
     rt: &R,
     alloc: Global,
+    method: &str,
     name: &str,
     words: &[&str],
     heap: &[u8],
@@ -148,7 +162,7 @@ fn index_of_line<R: Threads + Sync + Abort>(
     assert_eq!(rt; answer_of(alloc, &ended)?.as_str(), "0", "{name}");
     assert_eq!(rt; ended.rows, rows, "{name}");
     let blocks = ended.blocks;
-    let report = format!(in alloc; "built btree: {rows} rows, {blocks} blocks\n")?;
+    let report = format!(in alloc; "built {method}: {rows} rows, {blocks} blocks\n")?;
     assert_eq!(rt; files.said(), report.as_bytes(), "{name}");
     assert!(rt; are_kept(&files, heap), "{name}");
     let index = index_in(alloc, &files)?;
