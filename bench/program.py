@@ -12,9 +12,6 @@ DEFAULT = os.path.join(HERE, "..", "crates", "pg_index", "out", "pg_index")
 TABLE = "CREATE TABLE t (a int4)"
 INDEX = "CREATE INDEX i ON t (a)"
 
-# The exit status of what the program doesn't build yet.
-NOT_YET = 11
-
 
 @dataclass(frozen=True)
 class Ended:

@@ -1,4 +1,4 @@
-"""The indexes of the trial: every form of B-tree that the program is for."""
+"""The indexes of the trial: every form of B-tree, and of BRIN and GIN, that the program is for."""
 
 from __future__ import annotations
 
@@ -23,10 +23,12 @@ class Index:
     """What the program says of a heap that it refuses here."""
     compressed: bool = False
     """Whether the server compresses some keys, so that its file is another one."""
+    method: str = "btree"
 
     def statement(self) -> str:
         parts = [
             f"CREATE {'UNIQUE ' if self.unique else ''}INDEX {self.name} ON {self.table}",
+            "" if self.method == "btree" else f"USING {self.method}",
             f"({', '.join(self.keys)})",
             f"INCLUDE ({', '.join(self.include)})" if self.include else "",
             "" if self.nulls_distinct else "NULLS NOT DISTINCT",
@@ -172,9 +174,83 @@ def refused_ones() -> Iterator[Index]:
     yield Index("shared_a", "shared", ("a",), refused=r"heap block \d+ item \d+: cause 4")
 
 
+def by_brin(name: str, table: str, *keys: str, **more) -> Index:
+    return Index(f"brin_{name}", table, keys, method="brin", **more)
+
+
+# The types of keys that BRIN takes.
+RANGE_TYPES = tuple(column for column in KEY_TYPES if column != "flag")
+
+RANGES = ("1", "3", "128", "131072")
+
+# As many columns of `many` as an index may have, but for those of bool.
+RANGE_COLUMNS = [f"c{k}" for k in range(1, 41) if k % 8 != 4][:MOST_COLUMNS]
+
+
+def of_ranges() -> Iterator[Index]:
+    """BRIN indexes of one column, by its type and by how many blocks a range has."""
+    for column in RANGE_TYPES:
+        yield by_brin(f"kinds_{column}", "kinds", column, options="pages_per_range = 3")
+    for column in ("a", "t", "n", "u"):
+        for blocks in RANGES:
+            options = f"pages_per_range = {blocks}"
+            yield by_brin(f"readings_{column}_{blocks}", "readings", column, options=options)
+    for blocks in ("1", "2"):
+        options = f"pages_per_range = {blocks}"
+        yield by_brin(f"many_blocks_{blocks}", "many_blocks", "a", options=options)
+
+
+def of_ranges_of_columns() -> Iterator[Index]:
+    """BRIN indexes of several columns, with conditions, and over tables of many histories."""
+    one = {"options": "pages_per_range = 1"}
+    yield by_brin("kinds_all", "kinds", *RANGE_TYPES, options="pages_per_range = 5")
+    yield by_brin("vacuumed_all", "vacuumed", *RANGE_TYPES, **one)
+    columns = ("a", "two", "eight", "d", "ts", "tm", "u", "t", "n", "o")
+    yield by_brin("readings_all", "readings", *columns, options="pages_per_range = 3")
+    yield by_brin("readings_where", "readings", "n", "t", where="a > 20000", **one)
+    yield by_brin("readings_none", "readings", "n", where="a < -1000000")
+    yield by_brin("many_first", "many", *RANGE_COLUMNS)
+    yield by_brin("chains", "chains", "a", "t", "n", **one)
+    yield by_brin("locks", "locks", "a", "k")
+    yield by_brin("grown", "grown", "a", "late", "later", **one)
+    yield by_brin("long_texts", "long_texts", "v", "a", options="pages_per_range = 2")
+    yield by_brin("toasted", "toasted", "b", "t", **one)
+    yield by_brin("empty", "empty", "a", "t")
+    yield by_brin("dead", "dead", "a", "t", **one)
+    yield by_brin("single", "single", "a", "t")
+    yield by_brin("broad", "broad", "t")
+    wide = r"range 0 too wide: 8160 bytes"
+    yield by_brin("too_broad", "too_broad", "t", refused=wide)
+    yield by_brin("shared", "shared", "a", refused=r"heap block \d+ item \d+: cause 4")
+
+
+def by_gin(name: str, table: str, key: str, **more) -> Index:
+    return Index(f"gin_{name}", table, (key,), method="gin", **more)
+
+
+def of_arrays() -> Iterator[Index]:
+    """GIN indexes, also with conditions, by each type of an element."""
+    for column in ("fours", "eights", "texts"):
+        for update in ("on", "off"):
+            options = f"fastupdate = {update}"
+            yield by_gin(f"sets_{column}_{update}", "sets", column, options=options)
+        yield by_gin(f"kinds_{column}", "kinds", column)
+        yield by_gin(f"vacuumed_{column}", "vacuumed", column)
+    yield by_gin("sets_where", "sets", "fours", where="a > 3000 AND eights IS NOT NULL")
+    yield by_gin("sets_null", "sets", "texts", where="fours IS NULL")
+    yield by_gin("sets_none", "sets", "texts", where="a = 77777777")
+    for column in ("fours", "texts"):
+        yield by_gin(f"tags_{column}", "tags", column)
+        yield by_gin(f"long_{column}", "long_arrays", column, options="fastupdate = off")
+        yield by_gin(f"empty_{column}", "no_arrays", column)
+    yield by_gin("long_element", "long_element", "texts", compressed=True)
+    long = r"heap block 0 item 2: cause 13"
+    yield by_gin("too_long_element", "too_long_element", "texts", refused=long)
+
+
 def all_indexes() -> list[Index]:
     groups = (
         of_each_type, of_several_columns, of_many_levels, with_include, with_where, unique_ones,
-        by_history, of_few_rows, refused_ones,
+        by_history, of_few_rows, refused_ones, of_ranges, of_ranges_of_columns, of_arrays,
     )  # fmt: skip
     return [index for group in groups for index in group()]

@@ -1,9 +1,10 @@
-"""Asks the server what amcheck says of an index, and the same queries with it and without any."""
+"""Asks the server what amcheck says of a B-tree, and the same queries with it and without any."""
 
 from __future__ import annotations
 
 from collections.abc import Iterable
 
+import index_file
 import server
 from indexes import Index
 
@@ -21,7 +22,9 @@ TABLE_SCANS = "SET enable_seqscan = on; SET enable_sort = on;"
 
 
 class Asked:
-    """The queries that are asked of one index."""
+    """The queries that are asked of one B-tree."""
+
+    index_scans = INDEX_SCANS
 
     def __init__(self, cluster: server.Cluster, index: Index, others: list[str]):
         self.cluster = cluster
@@ -91,7 +94,7 @@ class Asked:
         queries = self.queries()
         count = len(queries)
         told = self.cluster.sql(
-            f"BEGIN; {dropped(self.others)} {INDEX_SCANS}"
+            f"BEGIN; {dropped(self.others)} {self.index_scans}"
             f"{asked(PLAN + query for query in queries)}{asked(queries)}"
             f"{dropped([self.index.name])} {TABLE_SCANS} {asked(queries)} ROLLBACK;"
         )
@@ -124,13 +127,33 @@ def turned(key: str) -> str:
     return f"{name} {'ASC' if descending else 'DESC'} NULLS {'LAST' if nulls_first else 'FIRST'}"
 
 
-def amcheck(cluster: server.Cluster, name: str) -> str | None:
+def inspected(cluster: server.Cluster, index: Index) -> str:
+    """What the server's own index is held to beside its bytes: nothing."""
+    return ""
+
+
+def difference(index: Index, ours: str, theirs: str) -> tuple[str, str]:
+    """How two files compare, and what is wrong with that."""
+    differs = index_file.difference(ours, theirs)
+    if differs is None:
+        return "equal bytes", ""
+    if index.compressed:
+        return "other bytes, since the server compresses keys", ""
+    return "", differs
+
+
+def check(cluster: server.Cluster, index: Index, wanted: str) -> str | None:
     """What amcheck has against an index, or None."""
+    name = index.name
     try:
         cluster.sql(
             f"SELECT bt_index_check('{name}', heapallindexed => true);"
             f"SELECT bt_index_parent_check('{name}', heapallindexed => true, rootdescend => true);"
         )
     except server.Refused as refused:
-        return str(refused)
+        return f"amcheck: {refused}"
     return None
+
+
+# Run after a table was changed, before its indexes are asked again.
+AFTER_CHANGES = ""
