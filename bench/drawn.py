@@ -239,7 +239,8 @@ def wide_texts(chance: random.Random) -> Drawn:
     lengths = (20, 4050, 4063, 4065, 4067, 4069, 4071)
     rows = [chance.choice(lengths) * chance.choice((b"a", b"b", b"c")) for _ in range(8)]
     pages = [heaps.data_page([heaps.long_datum(text)]) for text in rows]
-    index = f"CREATE INDEX i ON t USING brin (a) WITH (pages_per_range = {chance.choice((1, 2, 3))})"
+    size = chance.choice((1, 2, 3))
+    index = f"CREATE INDEX i ON t USING brin (a) WITH (pages_per_range = {size})"
     return Drawn(b"".join(pages), "CREATE TABLE t (a text)", index)
 
 

@@ -1,7 +1,8 @@
-"""Holds two B-tree files against each other, but for what differs by design.
+"""Holds two files of B-trees or BRIN indexes against each other, but for what differs by design.
 
 The program writes no LSN and no checksum, zeros between pd_lower and pd_upper, and 0 as the block
-of a leaf's high key, where a server leaves whatever stood there.
+of a leaf's high key, where a server leaves whatever stood there. A page of BRIN without tuples has
+no such hole: pd_upper is 8184, and the revmap's pointers stand there.
 """
 
 from __future__ import annotations

@@ -6,6 +6,7 @@ are filled otherwise, is only read.
 
 from __future__ import annotations
 
+import mmap
 import struct
 from collections.abc import Iterator
 from dataclasses import dataclass
@@ -84,6 +85,11 @@ def pointer_at(data: bytes, at: int) -> tuple[int, int]:
     return high << 16 | low, offset
 
 
+def block_at(data: bytes, at: int) -> int:
+    high, low = struct.unpack_from("<HH", data, at)
+    return high << 16 | low
+
+
 # ---- posting lists
 
 
@@ -134,9 +140,9 @@ def segment_bytes(pointers: list) -> int:
 
 
 class File:
-    """A file under the arrays of a type."""
+    """A file over arrays of a type."""
 
-    def __init__(self, data: bytes, kind: Type) -> None:
+    def __init__(self, data: bytes | mmap.mmap, kind: Type) -> None:
         self.data = data
         self.kind = kind
         self.element = TYPES[kind.element]
@@ -146,7 +152,7 @@ class File:
 
     def page(self, block: int) -> Page:
         want(0 < block < self.blocks, f"block {block} isn't there")
-        return Page(block, self.data[block * PAGE :][:PAGE])
+        return Page(block, self.data[block * PAGE : (block + 1) * PAGE])
 
     def chain(self, first: int) -> Iterator[Page]:
         """The pages of a level, from the first along the right links."""
@@ -208,23 +214,38 @@ class File:
         data, count = page.content(), page.number(SPECIAL + 4, 2)
         want(len(data) >= 10 * count, "a page has fewer items than it counts")
         starts = range(0, 10 * count, 10)
-        return [Item(pointer_at(data[at : at + 4] + b"\0\0", 0)[0], pointer_at(data, at + 4)) for at in starts]
+        return [Item(block_at(data, at), pointer_at(data, at + 4)) for at in starts]
 
     def pointers_below(self, root: int) -> list:
-        leaves = self.levels(root, self.posting_items)[-1]
+        leaves = self.chain(self.first_leaf(root, self.posting_items))
         return [pointer for page in leaves for pointer in list_of(page.content())]
 
     # ---- as a whole
 
+    def first_leaf(self, root: int, items_of) -> int:
+        """The block of the leftmost leaf of a tree."""
+        block = root
+        for _ in range(self.blocks):
+            page = self.page(block)
+            if page.flags & LEAF:
+                return block
+            block = items_of(page)[0].child
+        raise Unreadable("a tree has no leaf")
+
+    def postings(self) -> Iterator[tuple[Entry, list]]:
+        """The entries with their pointers, one behind the other."""
+        last = None
+        for page in self.chain(self.first_leaf(ROOT, self.entry_items)):
+            for entry, pointers in map(self.posting_of, page.tuples()):
+                want(last is None or last < order_of(entry), "entries don't ascend")
+                ascend = all(a < b for a, b in zip(pointers, pointers[1:]))
+                want(ascend, f"{entry}: a list doesn't ascend")
+                last = order_of(entry)
+                yield entry, pointers
+
     def map(self) -> Map:
         """The map that the file is read as."""
-        levels = self.levels(ROOT, self.entry_items)
-        postings = [self.posting_of(one) for page in levels[-1] for one in page.tuples()]
-        keys = [order_of(entry) for entry, _ in postings]
-        want(all(a < b for a, b in zip(keys, keys[1:])), "entries don't ascend")
-        for entry, pointers in postings:
-            want(all(a < b for a, b in zip(pointers, pointers[1:])), f"{entry}: a list doesn't ascend")
-        return dict(postings)
+        return dict(self.postings())
 
     def check(self) -> None:
         """Holds the file to what is said of those that the program builds."""
@@ -284,8 +305,8 @@ class File:
     def fill_of_pointers(self, page: Page) -> int:
         fill = len(page.content())
         want(fill <= POSTING_ROOM, f"block {page.block} has {fill} bytes of items")
-        leaf = bool(page.flags & LEAF)
-        want(page.flags == (DATA | LEAF | SEGMENTS if leaf else DATA), f"block {page.block} has flags {page.flags}")
+        flags = DATA | LEAF | SEGMENTS if page.flags & LEAF else DATA
+        want(page.flags == flags, f"block {page.block} has flags {page.flags}")
         bound = bytes(6) if page.right == NO_LINK else pointer_bytes(self.greatest_pointer(page))
         want(page.bytes[24:30] == bound, f"block {page.block} has another right bound")
         return fill

@@ -8,7 +8,8 @@ from tables import Table
 READINGS = """
 INSERT INTO readings SELECT g, g / 100, g::int8 * 1000000007, '2000-01-01'::date + g / 50,
   '2020-01-01'::timestamp + g * interval '1 minute',
-  '00:00'::time + g % 86400 * interval '1 second', md5((g / 700)::text)::uuid, 'reading ' || lpad((g / 30)::text, 5, '0'),
+  '00:00'::time + g % 86400 * interval '1 second', md5((g / 700)::text)::uuid,
+  'reading ' || lpad((g / 30)::text, 5, '0'),
   CASE WHEN g / 1000 % 3 > 0 THEN drawn(g, 1, 500) END, drawn(g, 2, 30000)
   FROM generate_series(1, 30000) AS g;
 UPDATE readings SET t = 'changed' WHERE a % 211 = 0;

@@ -85,8 +85,9 @@ class Asked(queries.Asked):
 
     def conditions_of(self, column: str) -> list[str]:
         """Conditions with the values of some rows, and of nulls."""
+        where = f"{self.where()} AND {column} IS NOT NULL"
         drawn = (
-            f"(SELECT {column} FROM {self.index.table} WHERE {self.where()} AND {column} IS NOT NULL"
+            f"(SELECT {column} FROM {self.index.table} WHERE {where}"
             f" ORDER BY md5(ctid::text) LIMIT 2) AS drawn"
         )
         told = self.cluster.sql(
