@@ -14,7 +14,7 @@ from dataclasses import dataclass
 from model_gin import KEY, MOST_TUPLE, Entry, Map, list_place, order_of
 from model_page import PAGE, pointer_bytes
 from model_statements import TYPES, Type
-from model_values import Walk, aligned
+from model_values import Unread, Walk, aligned
 
 DATA, LEAF, META, SEGMENTS = 1, 2, 8, 0x80
 NO_LINK = 0xFFFFFFFF
@@ -326,8 +326,8 @@ def difference(data: bytes, kind: Type, wanted: Map) -> str | None:
     try:
         file.check()
         told = file.map()
-    except Unreadable as unreadable:
-        return str(unreadable)
+    except (Unreadable, Unread, IndexError, struct.error) as why:
+        return f"no GIN file: {why}"
     if told == wanted:
         return None
     entries = [entry for entry in {**wanted, **told} if wanted.get(entry) != told.get(entry)]

@@ -13,6 +13,7 @@ import model
 import model_gin
 import model_gin_file
 import model_heap
+import model_page
 import model_statements
 
 # The answer to a heap without a fault.
@@ -57,6 +58,25 @@ RANGES = b"".join(
         heaps.data_page([None]),
     ]
 )
+
+
+def gin_file_of_four_rows():
+    """The GIN file of the rows {5,5,1}, {}, null and {NULL,1}, by its bytes."""
+    zeros = 8 * " 00"
+    tuples = [
+        "00 80 10 00 02 00 20 00 01" + 11 * " 00" + " 01 00 01 00 03" + 7 * " 00",
+        "00 80 10 00 01 00 18 00 05" + 11 * " 00" + " 01 00 00 00",
+        f"00 80 12 00 01 00 20 80 {zeros} 01 00 00 00 00 00 04 00 {zeros}",
+        f"00 80 12 00 01 00 20 80 {zeros} 02 00 00 00 00 00 02 00 {zeros}",
+        f"00 80 12 00 01 00 20 80 {zeros} 03 00 00 00 00 00 03 00 {zeros}",
+    ]
+    meta = "ff ff ff ff ff ff ff ff" + 16 * " 00" + " 02 00 00 00 01 00 00 00" + zeros
+    meta += " 05 00 00 00 00 00 00 00 02 00 00 00 00 00 00 00"
+    root = model_page.item_page(
+        [bytes.fromhex(one) for one in tuples], bytes.fromhex("ff ff ff ff 00 00 02 00")
+    )
+    special = bytes.fromhex("ff ff ff ff 00 00 08 00")
+    return model_page.with_header(bytes.fromhex(meta), b"", special) + root
 
 
 def text_heap(length):
@@ -368,6 +388,30 @@ class Model(unittest.TestCase):
         for text, wanted in [(key, ((0, 1), [(0, 1), (0, 4)])), (null, ((1, None), [(0, 4)]))]:
             with self.subTest(text):
                 self.assertEqual(file.posting_of(bytes.fromhex(text)), wanted)
+
+    def test_reading_of_a_file(self):
+        """The file of the four rows, and what is told of it with some bytes changed."""
+        arrays = heaps.int4_array(5, 5, 1), heaps.int4_array(), None, heaps.int4_array(None, 1)
+        wanted = model.answer(heaps.data_page(arrays), ARRAYS_TABLE, GIN)
+        file = gin_file_of_four_rows()
+        self.assertIsNone(wanted.difference(file))
+        root = 8192
+        for place, text, told in [
+            (24, "00 00 00 00", "the meta page says"),
+            (48, "03", "the meta page says"),
+            (64, "04", "the meta page says"),
+            (8190, "00", "block 0 is no meta page"),
+            (root + 8190, "00", "isn't there"),
+            (root + 8184, "01 00 00 00", "right links don't end"),
+            (root + 8152, "00 00", "the list begins elsewhere"),
+            (root + 8152 + 4, "01", "the list is counted otherwise"),
+            (root + 8152 + 8, "02", "2 entries have other rows"),
+            (root + 8152 + 8, "06", "entries don't ascend"),
+            (root + 8152 + 24, "04", "1 entries have other rows"),
+            (root + 8112, "02", "entries don't ascend"),
+        ]:
+            with self.subTest(f"{place} {text}"):
+                self.assertIn(told, str(wanted.difference(with_bytes(file, place, text))))
 
     def test_segments(self):
         cases = [
