@@ -6,6 +6,7 @@ are filled otherwise, is only read.
 
 from __future__ import annotations
 
+import itertools
 import mmap
 import struct
 from collections.abc import Iterator
@@ -93,17 +94,20 @@ def block_at(data: bytes, at: int) -> int:
 # ---- posting lists
 
 
-def delta_at(data: bytes, at: int) -> tuple[int, int]:
-    """The delta that begins at a place, and where it ends."""
-    delta, start = 0, at
-    while True:
-        want(at < len(data) and at - start < 7, "a delta doesn't end")
-        delta |= (data[at] & 0x7F) << 7 * (at - start)
-        at += 1
-        if data[at - 1] < 0x80:
-            break
-    want(delta > 0 and (data[at - 1] > 0 or at - start == 1), "a delta has another spelling")
-    return delta, at
+def deltas_of(data: bytes) -> list[int]:
+    """The deltas that bytes spell, each in the one way that it has."""
+    deltas, delta, shift = [], 0, 0
+    for byte in data:
+        delta |= (byte & 0x7F) << shift
+        if byte >= 0x80:
+            shift += 7
+        elif delta == 0 or (byte == 0 and shift > 0) or shift > 42:
+            raise Unreadable("a delta has another spelling")
+        else:
+            deltas.append(delta)
+            delta = shift = 0
+    want(shift == 0, "a delta doesn't end")
+    return deltas
 
 
 def segment_at(data: bytes, at: int) -> tuple[list, int]:
@@ -113,10 +117,7 @@ def segment_at(data: bytes, at: int) -> tuple[list, int]:
     end = at + 8 + int.from_bytes(data[at + 6 : at + 8], "little")
     want(end + end % 2 <= len(data), "a segment doesn't end")
     want(not any(data[end : end + end % 2]), "a segment has no zero behind it")
-    numbers, at = [block << 11 | offset], at + 8
-    while at < end:
-        delta, at = delta_at(data[:end], at)
-        numbers.append(numbers[-1] + delta)
+    numbers = itertools.accumulate(deltas_of(data[at + 8 : end]), initial=block << 11 | offset)
     return [(number >> 11, number & 0x7FF) for number in numbers], end + end % 2
 
 
