@@ -12,6 +12,8 @@ from model_statements import TYPES
 # Of whose columns an index may be, and their elements.
 ELEMENTS = {"fours": "int4", "eights": "int8", "texts": "text"}
 
+SIGNS = ("@>", "&&", "<@", "=")
+
 BITMAP_SCANS = "SET enable_seqscan = off; SET enable_indexscan = off; SET enable_bitmapscan = on;"
 
 # What pageinspect tells of the pages of an index: the meta page, and of the leaves of posting trees
@@ -115,6 +117,3 @@ class Asked(queries.Asked):
         told = self.cluster.sql(f"BEGIN; {queries.dropped(self.others)} {text} ROLLBACK;")
         elements, bad = told.split()
         return int(elements), int(bad)
-
-
-SIGNS = ("@>", "&&", "<@", "=")

@@ -61,12 +61,11 @@ def check(cluster: server.Cluster, index: Index, wanted: str) -> str | None:
 
 
 class Inspected:
-    """What pageinspect told of an index."""
+    """What pageinspect told of an index: a line for each range and column, and three more."""
 
     def __init__(self, told: str):
         lines = [line.split(server.SEPARATOR) for line in told.splitlines()]
         *self.ranges, self.pointers, self.tuples, self.meta = lines
-        """A line of the ranges for each range and column."""
 
 
 def is_empty(line: list[str]) -> bool:

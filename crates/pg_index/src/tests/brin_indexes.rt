@@ -1,4 +1,4 @@
-use super::made_heaps::{Block, heap_of_blocks, lacks_at};
+use super::made_heaps::{Block, broken_page, heap_of_blocks, lacks_at};
 use super::numbered_rows::{Column, numbered_rows};
 use super::runs::{Command, TABLE, assert_refused, index_built_by};
 use pg_bytes::PAGE;
@@ -35,7 +35,7 @@ const BY_THREES: Command = Command {
     ..OF_INT4
 };
 
-// The least rows of a page.
+// Rows of one int4: values, a dead one, and a null.
 const FIVE: Line = Line::Normal(Tuple {
     values: &[5, 0, 0, 0],
     ..INT4_ROW
@@ -465,7 +465,7 @@ const OF_TEXT: Command = Command {
     options: &[],
 };
 
-// A heap page of one row: a text of so many of these letters, less than 4,096 of them.
+// A heap page of one row: a text of so many of these letters, up to 4,095.
 fn text_page(alloc: Global, letter: u8, count: u16) -> Result<Vec<u8>, AllocError> {
     let header = u32::from(count.min(4095))
         .saturating_add(4)
@@ -503,7 +503,7 @@ fn a_range_may_fill_a_page_and_no_more(rt: HostRuntime) -> Result<(), Fail> {
     Ok(())
 }
 
-// The blocks of a heap whose ranges of two blocks are: narrow ones, wide ones, and wider ones.
+// A heap whose ranges of two blocks are so many narrow ones, a wide one, and a wider one.
 fn wide_heap(alloc: Global, narrow: u16) -> Result<Vec<u8>, AllocError> {
     let mut pages = Vec::new(alloc);
     for _ in 0..narrow {
@@ -517,7 +517,7 @@ fn wide_heap(alloc: Global, narrow: u16) -> Result<Vec<u8>, AllocError> {
     heap_of(alloc, &pages, 0)
 }
 
-// The ranges before the wide ones, and how the build ends.
+// How many ranges are narrow, and how the build ends.
 const WIDE: [(u16, &str); 3] = [
     (0, "7 range 0 too wide: 8160 bytes"),
     (1, "7 range 1 too wide: 8160 bytes"),
@@ -534,13 +534,13 @@ fn the_least_wide_range_is_told(rt: HostRuntime) -> Result<(), Fail> {
     Ok(())
 }
 
-// A heap with a broken page has no wide range that is told.
+// The block behind the wide ranges is broken.
 #[test]
 fn a_fault_of_the_heap_is_told_before_a_wide_range(rt: HostRuntime) -> Result<(), Fail> {
     let alloc = rt.alloc();
     let wide = wide_heap(alloc, 0)?;
     let mut broken = wide.to_vec(alloc)?;
-    broken.extend_from_slice(&super::made_heaps::broken_page(alloc)?)?;
+    broken.extend_from_slice(&broken_page(alloc)?)?;
     let want = "5 heap block 4 item 0: cause 1";
     assert_refused(&rt, alloc, want, &OF_TEXT, &broken, want)?;
     Ok(())

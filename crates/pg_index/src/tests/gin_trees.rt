@@ -90,8 +90,7 @@ fn a_tuple_has_a_list_of_up_to_2712_bytes_in_it(rt: HostRuntime) -> Result<(), F
     Ok(())
 }
 
-// An entry whose list has no room in its tuple: what the meta page counts and what the tuple says
-// where the tree has one page, and where it has more.
+// A tree of one page: what the meta page counts, the entry's tuple, and what the page is.
 const TREE_OF_ONE_PAGE: [Piece; 3] = [
     (48, &[3, 0, 0, 0, 1, 0, 0, 0, 1, 0, 0, 0, 0, 0, 0, 0, 1, 0]),
     (
@@ -101,7 +100,7 @@ const TREE_OF_ONE_PAGE: [Piece; 3] = [
     (2 * PAGE + 8184, &[0xFF, 0xFF, 0xFF, 0xFF, 0, 0, 0x83, 0]),
 ];
 
-// Three leaves, which have right links, and the root with an item for each.
+// A tree of three leaves, which have right links, and a root with an item for each.
 const TREE_OF_TWO_LEVELS: [Piece; 5] = [
     (48, &[6, 0, 0, 0, 1, 0, 0, 0, 4, 0, 0, 0, 0, 0, 0, 0, 1, 0]),
     (PAGE + 8168, &[0, 0, 5, 0, 0xFF, 0xFF, 0x10, 0, 1, 0, 0, 0]),
@@ -225,8 +224,8 @@ fn assert_lengths<R: Threads + Sync + Abort>(
     Ok(())
 }
 
-// A heap of so many rows of one text of 2,600 bytes each, another letter in each: the last ones of
-// the alphabet first.
+// A heap of so many rows of one text of 2,600 bytes each: the last letters of the alphabet, from z
+// down.
 fn letters(alloc: Global, count: u8) -> Result<Vec<u8>, AllocError> {
     let mut pages = Vec::new(alloc);
     for number in 0..count.min(26) {
@@ -235,8 +234,8 @@ fn letters(alloc: Global, count: u8) -> Result<Vec<u8>, AllocError> {
     heap_of(alloc, &pages, 0)
 }
 
-// Three tuples of 2,624 bytes to a leaf, so z on the second one: its tuple, and those of the root,
-// which have the greatest text of each leaf.
+// Three tuples of 2,624 bytes to a leaf, so that z is on the second one; the root has the greatest
+// text of each.
 const TWO_LEVELS: [Piece; 8] = [
     (48, &[4, 0, 0, 0, 3, 0, 0, 0, 0, 0, 0, 0, 0, 0, 0, 0, 4, 0]),
     (PAGE + 12, &[32, 0]),
@@ -292,6 +291,7 @@ fn wide_entries_have_levels_above_them(rt: HostRuntime) -> Result<(), Fail> {
     Ok(())
 }
 
+// That each index of so many texts has so many blocks, and these pieces.
 fn assert_levels<R: Threads + Sync + Abort>(
     rt: &R,
     alloc: Global,
