@@ -6,8 +6,8 @@ use Rattle.build_leader.proofs.Determined.{same_outcome}
 use Rattle.build_leader.specs.Blocks.{IsWhole}
 use Rattle.pg_index.specs.HeapFile.{HasFileFault, OnFile}
 use Rattle.pg_index.specs.Laws.{OutcomeIsDetermined}
-use Rattle.pg_index.specs.Outcome.{Asks, HasHeapOutcome, HeapOutcome, NotYet, OfBlocks, OfFile, OfHeap, Statement, Usage}
-use Rattle.pg_index.specs.Statements.{asked_of, form_of}
+use Rattle.pg_index.specs.Outcome.{Asks, HasHeapOutcome, HeapOutcome, OfBlocks, OfFile, OfHeap, Statement, Usage}
+use Rattle.pg_index.specs.Statements.{asked_of}
 use Rattle.pg_index.specs.Words.{IsUsageFault, heap_name}
 use Rattle.pg_index.specs.declared.heap_file.FileCause.{FileCause}
 use Rattle.pg_index.specs.declared.heap_file.FileCause.TheVariants.{NotWhole, TooLong}
@@ -66,26 +66,9 @@ is_value (Err fault) = ⊥
 pub not_both : (read : Result Asked StmtFault) (a : Asked) (b : StmtFault) → read ≡ Ok a → read ≡ Err b → ⊥
 not_both read a b x y = subst is_value (sym x ∙ y) tt
 
-abbrev form_is : Option ℕ → ℕ → ℕ
-form_is None other = other
-form_is (Some form) other = form
-
-same_form : (read : Option ℕ) (a b : ℕ) → read ≡ Some a → read ≡ Some b → a ≡ b
-same_form read a b x y = ap (λ (r : Option ℕ). form_is r a) (sym x ∙ y)
-
-abbrev is_form : Option ℕ → Type 0
-is_form (Some form) = Unit {0}
-is_form None = ⊥
-
-pub not_form : (read : Option ℕ) (a : ℕ) → read ≡ Some a → read ≡ None → ⊥
-not_form read a x y = subst is_form (sym x ∙ y) tt
-
 -- what is asked for is one
 pub same_asked : (words : List (List ℕ)) (a b : Asked) → Asks words a → Asks words b → a ≡ b
 same_asked words a b x y = same_value (asked_of words) a b x.1 y.1
-
-pub form_same : (words : List (List ℕ)) (a b : Asked) → Asks words a → Asks words b → form_of a.spec.method ≡ form_of b.spec.method
-form_same words a b x y = ap (λ (asked : Asked). form_of asked.spec.method) (same_asked words a b x y)
 
 -- the outcome of a file is one
 same_of_file : (file : Option (List ℕ)) (one two : Asked) (a b : HeapOutcome) → one ≡ two
@@ -99,21 +82,11 @@ same_of_file (Some heap) one two a b is x y =
 pub same_of_run : OutcomeIsDetermined
 same_of_run words told (Usage a) (Usage b) x y = ap Usage (same_word words a b x y)
 same_of_run words told (Usage a) (Statement b) x y = absurd (y.0 a x.0)
-same_of_run words told (Usage a) (NotYet b) x y = absurd (y.1.0 a x.0)
-same_of_run words told (Usage a) (OfHeap b) x y = absurd (y.1.0.0 a x.0)
+same_of_run words told (Usage a) (OfHeap b) x y = absurd (y.1.0 a x.0)
 same_of_run words told (Statement a) (Usage b) x y = absurd (x.0 b y.0)
 same_of_run words told (Statement a) (Statement b) x y = ap Statement (same_fault (asked_of words) a b x.1 y.1)
-same_of_run words told (Statement a) (NotYet b) x y = absurd (not_both (asked_of words) y.0 a y.1.1 x.1)
-same_of_run words told (Statement a) (OfHeap b) x y = absurd (not_both (asked_of words) y.0 a y.1.0.1 x.1)
-same_of_run words told (NotYet a) (Usage b) x y = absurd (x.1.0 b y.0)
-same_of_run words told (NotYet a) (Statement b) x y = absurd (not_both (asked_of words) x.0 b x.1.1 y.1)
-same_of_run words told (NotYet a) (NotYet b) x y =
-    ap NotYet (same_form (form_of x.0.spec.method) a b x.2 (form_same words x.0 y.0 x.1 y.1 ∙ y.2))
-same_of_run words told (NotYet a) (OfHeap b) x y =
-    absurd (not_form (form_of x.0.spec.method) a x.2 (form_same words x.0 y.0 x.1 y.1.0 ∙ y.1.1))
-same_of_run words told (OfHeap a) (Usage b) x y = absurd (x.1.0.0 b y.0)
-same_of_run words told (OfHeap a) (Statement b) x y = absurd (not_both (asked_of words) x.0 b x.1.0.1 y.1)
-same_of_run words told (OfHeap a) (NotYet b) x y =
-    absurd (not_form (form_of y.0.spec.method) b y.2 (form_same words y.0 x.0 y.1 x.1.0 ∙ x.1.1))
+same_of_run words told (Statement a) (OfHeap b) x y = absurd (not_both (asked_of words) y.0 a y.1.1 x.1)
+same_of_run words told (OfHeap a) (Usage b) x y = absurd (x.1.0 b y.0)
+same_of_run words told (OfHeap a) (Statement b) x y = absurd (not_both (asked_of words) x.0 b x.1.1 y.1)
 same_of_run words told (OfHeap a) (OfHeap b) x y =
-    ap OfHeap (same_of_file (told (heap_name words)) x.0 y.0 a b (same_asked words x.0 y.0 x.1.0 y.1.0) x.2 y.2)
+    ap OfHeap (same_of_file (told (heap_name words)) x.0 y.0 a b (same_asked words x.0 y.0 x.1 y.1) x.2 y.2)

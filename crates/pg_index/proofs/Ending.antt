@@ -6,18 +6,19 @@ use Rattle.pg_files.specs.Outside.{FileMap, OnlyReads, Outside}
 use Rattle.std.specs.Prelude.{Bool, ◌+◌, string_bytes}
 use Rattle.block_claim.specs.Legal.{IsLegal}
 use Rattle.build_leader.specs.Blocks.{block_count, most_bytes}
-use Rattle.build_leader.specs.Outcome.{Duplicate, Faulty, Sorted}
+use Rattle.build_leader.specs.Outcome.{Duplicate, Faulty, Indexed, RangeWide}
 use Rattle.build_leader.specs.declared.fault.LeadFault.TheVariants as lead
+use Rattle.opclass.specs.Indexes.{IsIndexOver}
 use Rattle.index_stmt.specs.declared.fault.StmtFault.{StmtFault}
 use Rattle.index_stmt.specs.declared.fault.ReadStmt.{ReadStmt}
 use Rattle.index_stmt.specs.declared.fault.ReadStmt.TheVariants as read
 use Rattle.index_stmt.specs.Answers.{Answers}
 use Rattle.pg_index.proofs.ReadOn.{told_map}
 use Rattle.pg_index.specs.Answer.{fault_of_heap, fault_of_read, fault_of_statement}
-use Rattle.pg_index.specs.Calls.BuiltIndex.{IsHeapFault, IsIndexOf}
+use Rattle.pg_index.specs.Calls.BuiltIndex.{IsHeapFault, IsIndexOf, made_of}
 use Rattle.pg_index.specs.HeapFile.{IsFront, IsHeapOf, OnToldFile}
 use Rattle.pg_index.specs.IndexFile.{Delivery, IsCutShort, IsDelivered, delivery}
-use Rattle.pg_index.specs.Outcome.{AsksToBuild, HasHeapOutcome, HasOutcome, HeapOutcome, OfBlocks, OfFile, OfHeap, Statement}
+use Rattle.pg_index.specs.Outcome.{Asks, HasHeapOutcome, HasOutcome, HeapOutcome, OfBlocks, OfFile, OfHeap, Statement}
 use Rattle.pg_index.specs.Run.{Builds, Ends, Refused, Unread, WithoutMemory, Told, delivery_of, nothing}
 use Rattle.pg_index.specs.Report.{report_of}
 use Rattle.pg_index.specs.Statements.{asked_by, asked_of}
@@ -83,17 +84,17 @@ ends_unasked words table index old new fault grammar e f answers only =
     told_statement words old new fault grammar (answers_of words table index fault e f answers) only
 
 -- the end of a run whose heap file wasn't read
-pub ends_unread : (words : List (List ℕ)) (old new : Outside) (asked : Asked) (fault : ReadError) → AsksToBuild words asked → OnlyReads old new
+pub ends_unread : (words : List (List ℕ)) (old new : Outside) (asked : Asked) (fault : ReadError) → Asks words asked → OnlyReads old new
     → Ends words old new nothing (Some (fault_of_read fault))
-ends_unread words old new asked Memory asks only = WithoutMemory asks.0.0 refl only refl
+ends_unread words old new asked Memory asks only = WithoutMemory asks.0 refl only refl
 ends_unread words old new asked Failed asks only = Unread asked asks refl only refl
 
 -- the end of a heap that was refused
-refused : (words : List (List ℕ)) (name heap : List ℕ) (old new : Outside) (asked : Asked) (outcome : HeapOutcome) → name ≡ heap_name words → AsksToBuild words asked
+refused : (words : List (List ℕ)) (name heap : List ℕ) (old new : Outside) (asked : Asked) (outcome : HeapOutcome) → name ≡ heap_name words → Asks words asked
     → OnToldFile old.files name (IsHeapOf heap) → HasHeapOutcome asked heap outcome → HasOutcome words old.files (OfHeap outcome)
 refused words name heap old new asked outcome named asks read has = (asked, asks, told_heap words name old.files asked heap outcome named read has)
 
-pub ends_refused : (words : List (List ℕ)) (name heap : List ℕ) (old new : Outside) (asked : Asked) (fault : HeapFault) → name ≡ heap_name words → AsksToBuild words asked
+pub ends_refused : (words : List (List ℕ)) (name heap : List ℕ) (old new : Outside) (asked : Asked) (fault : HeapFault) → name ≡ heap_name words → Asks words asked
     → OnToldFile old.files name (IsHeapOf heap) → IsHeapFault asked heap fault → OnlyReads old new
     → Ends words old new nothing (Some (fault_of_heap fault))
 ends_refused words name heap old new asked (File file) named asks read has only =
@@ -102,7 +103,9 @@ ends_refused words name heap old new asked (Lead (lead.Row block item cause)) na
     Refused (OfHeap (OfBlocks (Faulty block item cause))) (refused words name heap old new asked (OfBlocks (Faulty block item cause)) named asks read has) refl refl only refl
 ends_refused words name heap old new asked (Lead (lead.Duplicate first second)) named asks read has only =
     Refused (OfHeap (OfBlocks (Duplicate first second))) (refused words name heap old new asked (OfBlocks (Duplicate first second)) named asks read has) refl refl only refl
-ends_refused words name heap old new asked (Lead lead.Memory) named asks read has only = WithoutMemory asks.0.0 refl only refl
+ends_refused words name heap old new asked (Lead (lead.RangeWide range size)) named asks read has only =
+    Refused (OfHeap (OfBlocks (RangeWide range size))) (refused words name heap old new asked (OfBlocks (RangeWide range size)) named asks read has) refl refl only refl
+ends_refused words name heap old new asked (Lead lead.Memory) named asks read has only = WithoutMemory asks.0 refl only refl
 
 -- a heap that was read under a name of the words has so many blocks
 told_blocks : (words : List (List ℕ)) (name : List ℕ) (told : Option FileMap) (heap : List ℕ) → name ≡ heap_name words → length heap ≤ most_bytes
@@ -113,24 +116,28 @@ told_blocks words name told heap named short read =
 
 -- what words and heap file came to, once the index stands in memory
 pub builds : (words : List (List ℕ)) (name heap : List ℕ) (outside : Outside) (asked : Asked) (manner : Manner) (index : BuiltIndex) → name ≡ heap_name words
-    → manner.workers ≡ workers_of words → AsksToBuild words asked → OnToldFile outside.files name (IsHeapOf heap)
-    → (built : IsIndexOf asked manner heap index) → Builds words outside asked built.sorted index.claims
-builds words name heap outside asked manner index named workers asks read built =
+    → manner.workers ≡ workers_of words → Asks words asked → IsIndexOver asked.table asked.spec
+    → OnToldFile outside.files name (IsHeapOf heap) → (built : IsIndexOf asked manner heap index)
+    → Builds words outside asked (made_of heap index built.taken)
+builds words name heap outside asked manner index named workers asks over read built =
     let P : ℕ → Type 0 = λ w. IsLegal (block_count heap) (w + 1) index.claims in
     record {
       asks = asks;
-      heap = told_heap words name outside.files asked heap (OfBlocks (Sorted built.sorted)) named read built.outcome;
-      claimed = (block_count heap, told_blocks words name outside.files heap named built.outcome.0.0 read, subst P workers built.legal);
+      index = over;
+      heap = told_heap words name outside.files asked heap (OfBlocks (Indexed built.taken)) named read built.outcome;
+      blocks = told_blocks words name outside.files heap named built.outcome.0.0 read;
+      claimed = subst P workers built.legal;
+      file = built.file;
     }
 
 -- what is delivered of an index that stands in memory, by its parts
 pub delivery_is : (words : List (List ℕ)) (heap : List ℕ) (asked : Asked) (manner : Manner) (index : BuiltIndex) (name image report : List ℕ) → name ≡ index_name words
     → manner.tells_claims ≡ wants_claims words → (built : IsIndexOf asked manner heap index) → image ≡ index.image → report ≡ string_bytes index.report
-    → delivery name image report ≡ delivery_of words asked built.sorted index.claims
+    → delivery name image report ≡ delivery_of words asked (made_of heap index built.taken)
 delivery_is words heap asked manner index name image report named claims built imaged told =
     let R : Bool → Told → List ℕ = λ wanted t. report_of wanted index.claims asked.spec.method t.rows t.blocks in
     ap (λ (n : List ℕ). delivery n image report) named
-    ∙ ap₂ (delivery (index_name words)) (imaged ∙ built.image) (told ∙ (built.report ∙ ap₂ R claims built.told))
+    ∙ ap₂ (delivery (index_name words)) imaged (told ∙ (built.report ∙ ap₂ R claims built.told))
 
 -- what is delivered after reading alone is delivered all in all
 pub delivered_after : (index : Delivery) (old mid new : Outside) → OnlyReads old mid → IsDelivered index mid new → IsDelivered index old new

@@ -5,7 +5,7 @@ use Rattle.index_stmt.specs.declared.fault.ReadStmt.{ReadStmt}
 use Rattle.index_stmt.specs.declared.fault.ReadStmt.TheVariants as read
 use Rattle.pg_index.specs.HeapFile.{number_of_file_cause}
 use Rattle.pg_index.specs.declared.fault.Fault.{Fault}
-use Rattle.pg_index.specs.declared.fault.Fault.TheVariants.{Usage, Statement, ReadFault, Heap, Duplicate, WriteFault, OutOfMemory, NotYet}
+use Rattle.pg_index.specs.declared.fault.Fault.TheVariants.{Usage, Statement, ReadFault, Heap, Duplicate, RangeWide, WriteFault, OutOfMemory}
 use Rattle.pg_index.specs.declared.fault.HeapFault.{HeapFault}
 use Rattle.pg_index.specs.declared.fault.HeapFault.TheVariants.{File, Lead}
 use Rattle.pg_index.specs.declared.heap_file.ReadError.{ReadError}
@@ -18,9 +18,9 @@ status_of_fault (Statement fault) = 3
 status_of_fault ReadFault = 4
 status_of_fault (Heap block item cause) = 5
 status_of_fault (Duplicate first second) = 6
+status_of_fault (RangeWide range size) = 7
 status_of_fault WriteFault = 8
 status_of_fault OutOfMemory = 10
-status_of_fault (NotYet form) = 11
 
 -- the status of an end: 0 where there is no fault
 abbrev pub status_of : Option Fault → ℕ
@@ -42,4 +42,5 @@ abbrev pub fault_of_heap : HeapFault → Fault
 fault_of_heap (File file) = Heap file.block 0 (number_of_file_cause file.cause)
 fault_of_heap (Lead (lead.Row block item cause)) = Heap block item cause
 fault_of_heap (Lead (lead.Duplicate first second)) = Duplicate first second
+fault_of_heap (Lead (lead.RangeWide range size)) = RangeWide range size
 fault_of_heap (Lead lead.Memory) = OutOfMemory

@@ -1,13 +1,14 @@
 -- The promise of a build, for every heap, table and index statement, count of workers and order of their claims: each
--- block is claimed once, the file written is that of the heap's rows in their order, byte for byte, and a unique build
--- is refused exactly where two live rows have equal keys under its null rule.
+-- block is claimed once, the file written is that of the heap's rows, byte for byte for a B-tree and a BRIN index and as
+-- the same map from entries to row pointers for a GIN index, and a unique build is refused exactly where two live rows
+-- have equal keys under its null rule.
 use Rattle.std.specs.Prelude.{◌≡◌, ◌+◌, ◌<◌, ℕ, IsTrue, List, Option, Some, None, AllPairs, slice_get}
 use Rattle.pg_bytes.specs.declared.row_ptr.RowPtr.{RowPtr}
 use Rattle.pg_files.specs.Outside.{Outside}
 use Rattle.block_claim.specs.Legal.{IsLegal}
 use Rattle.shared_tape.specs.declared.stored.Record.{Record}
 use Rattle.build_leader.specs.Blocks.{block_count}
-use Rattle.build_leader.specs.Outcome.{AreSortedRows, index_file}
+use Rattle.build_leader.specs.Outcome.{AreSortedRows, AreTakenRows, IsIndexFile}
 use Rattle.build_leader.specs.Unique.{Clash}
 use Rattle.pg_index.specs.IndexFile.{Holds}
 use Rattle.pg_index.specs.Run.{Told}
@@ -29,14 +30,17 @@ pub record SomeClash (asked : Asked) (heap : List ℕ) : Type 0 where
   pub second : slice_get sorted two ≡ Some b
   pub clash : Clash asked.spec a b
 
--- What is built of a heap: each of its blocks was claimed once, the index file is that of its rows in their order,
--- whatever workers there were, and of a unique index no two rows break the rule.
+-- What is built of a heap: each of its blocks was claimed once, the index file is that of its rows, whatever workers there
+-- were, and of a unique index no two rows break the rule. The file of a B-tree and of a BRIN index is one, and that of a
+-- GIN index is read as the map of the rows.
 pub record IsBuiltOf (words : List (List ℕ)) (asked : Asked) (heap : List ℕ) (old new : Outside) (told : Told) : Type 0 where
   pub claims : IsLegal (block_count heap) (workers_of words + 1) told.claims
-  pub sorted : List Record
-  pub rows : AreSortedRows asked.table asked.spec heap sorted
-  pub file : Holds (index_name words) (index_file asked.table asked.spec sorted) old new
-  pub unique : IsTrue asked.spec.unique → AllPairs (λ a b. Clash asked.spec a b → ⊥) sorted
+  pub rows : List Record
+  pub of_heap : AreTakenRows asked.spec.method asked.table asked.spec heap rows
+  pub image : List ℕ
+  pub index : IsIndexFile asked.table asked.spec (block_count heap) rows image
+  pub file : Holds (index_name words) image old new
+  pub unique : IsTrue asked.spec.unique → AllPairs (λ a b. Clash asked.spec a b → ⊥) rows
 
 -- what holds of every run over this heap
 pub record Headline (words : List (List ℕ)) (asked : Asked) (heap : List ℕ) (old new : Outside) (told : Told)

@@ -1,11 +1,11 @@
 -- What the words and the heap of a build come to, whoever runs it and whatever fails outside.
-use Rattle.std.specs.Prelude.{◌≡◌, ℕ, List, Option, Some, None, Ok, Err}
+use Rattle.std.specs.Prelude.{◌≡◌, ℕ, List, Option, Ok, Err}
 use Rattle.pg_files.specs.Outside.{FileMap}
 use Rattle.index_stmt.specs.declared.fault.StmtFault.{StmtFault}
 use Rattle.build_leader.specs.Blocks.{IsWhole}
 use Rattle.build_leader.specs.Outcome.{BuildOutcome, HasBuildOutcome}
 use Rattle.pg_index.specs.HeapFile.{HasFileFault, OnToldFile}
-use Rattle.pg_index.specs.Statements.{asked_of, form_of}
+use Rattle.pg_index.specs.Statements.{asked_of}
 use Rattle.pg_index.specs.Words.{IsInGrammar, IsUsageFault, heap_name}
 use Rattle.pg_index.specs.declared.heap_file.FileCause.{FileCause}
 use Rattle.pg_index.specs.declared.statements.Asked.{Asked}
@@ -15,12 +15,10 @@ pub data HeapOutcome : Type 0 where
   OfFile : FileCause → ℕ → HeapOutcome
   OfBlocks : BuildOutcome → HeapOutcome
 
--- what a run comes to: a word at fault, the fault of a statement, a form of index that isn't built yet, or what its
--- heap comes to
+-- what a run comes to: a word at fault, the fault of a statement, or what its heap comes to
 pub data Outcome : Type 0 where
   Usage : ℕ → Outcome
   Statement : StmtFault → Outcome
-  NotYet : ℕ → Outcome
   OfHeap : HeapOutcome → Outcome
 
 abbrev pub HasHeapOutcome : Asked → List ℕ → HeapOutcome → Type 0
@@ -31,16 +29,11 @@ HasHeapOutcome asked heap (OfBlocks outcome) = IsWhole heap × HasBuildOutcome a
 abbrev pub Asks : List (List ℕ) → Asked → Type 0
 Asks words asked = IsInGrammar words × (asked_of words ≡ Ok asked)
 
--- the words ask for an index that is built
-abbrev pub AsksToBuild : List (List ℕ) → Asked → Type 0
-AsksToBuild words asked = Asks words asked × (form_of asked.spec.method ≡ None)
-
--- What the words and the heap file come to, in the order of refusals: the words, the statements, the form, the heap.
+-- What the words and the heap file come to, in the order of refusals: the words, the statements, the heap.
 -- Of a heap file that isn't told nothing is said.
 abbrev pub HasOutcome : List (List ℕ) → Option FileMap → Outcome → Type 0
 HasOutcome words told (Usage fault) = IsUsageFault words fault
 HasOutcome words told (Statement fault) = IsInGrammar words × (asked_of words ≡ Err fault)
-HasOutcome words told (NotYet form) = (asked : Asked) × Asks words asked × (form_of asked.spec.method ≡ Some form)
 HasOutcome words told (OfHeap outcome) =
-    (asked : Asked) × AsksToBuild words asked
+    (asked : Asked) × Asks words asked
     × OnToldFile told (heap_name words) (λ heap. HasHeapOutcome asked heap outcome)

@@ -3,12 +3,13 @@ use Rattle.std.specs.Prelude.{IsSome, ◌≡◌, ◌⊎◌, ◌+◌, ℕ, List, 
 use Rattle.pg_files.specs.Outside.{OnlyReads, Outside}
 use Rattle.block_claim.specs.declared.claim.Claim.{Claim}
 use Rattle.block_claim.specs.Legal.{IsLegal}
+use Rattle.opclass.specs.Indexes.{IsIndexOver}
 use Rattle.build_leader.specs.Blocks.{block_count}
-use Rattle.build_leader.specs.Outcome.{Faulty, Duplicate, Sorted, index_file}
+use Rattle.build_leader.specs.Outcome.{Faulty, Duplicate, Indexed, RangeWide, IsIndexFile}
 use Rattle.shared_tape.specs.declared.stored.Record.{Record}
 use Rattle.pg_index.specs.HeapFile.{OnToldFile, number_of_file_cause}
 use Rattle.pg_index.specs.IndexFile.{Delivery, IsCutShort, IsDelivered, delivery}
-use Rattle.pg_index.specs.Outcome.{HasOutcome, Outcome, Usage, Statement, NotYet, OfHeap, OfFile, OfBlocks, AsksToBuild, HasHeapOutcome}
+use Rattle.pg_index.specs.Outcome.{Asks, HasHeapOutcome, HasOutcome, Outcome, Usage, Statement, OfHeap, OfFile, OfBlocks}
 use Rattle.pg_index.specs.Report.{report_of}
 use Rattle.pg_index.specs.declared.statements.Asked.{Asked}
 use Rattle.pg_index.specs.Words.{IsInGrammar, heap_name, index_name, wants_claims, workers_of}
@@ -19,11 +20,11 @@ use Rattle.pg_index.specs.declared.fault.Fault.TheVariants as faults
 abbrev pub fault_of : Outcome → Option Fault
 fault_of (Usage word) = Some (faults.Usage word)
 fault_of (Statement fault) = Some (faults.Statement fault)
-fault_of (NotYet form) = Some (faults.NotYet form)
 fault_of (OfHeap (OfFile cause block)) = Some (faults.Heap block 0 (number_of_file_cause cause))
 fault_of (OfHeap (OfBlocks (Faulty block item cause))) = Some (faults.Heap block item cause)
 fault_of (OfHeap (OfBlocks (Duplicate first second))) = Some (faults.Duplicate first second)
-fault_of (OfHeap (OfBlocks (Sorted sorted))) = None
+fault_of (OfHeap (OfBlocks (RangeWide range size))) = Some (faults.RangeWide range size)
+fault_of (OfHeap (OfBlocks (Indexed rows))) = None
 
 -- what an end tells beside its fault: how many rows and blocks, and who claimed which blocks
 pub record Told : Type 0 where
@@ -35,35 +36,34 @@ pub record Told : Type 0 where
 abbrev pub nothing : Told
 nothing = record { rows = 0; blocks = 0; claims = [] }
 
--- of an index of these rows, whose blocks were claimed so
-abbrev pub told_of : Asked → List Record → List Claim → Told
-told_of asked sorted claims = record {
-  rows = length sorted;
-  blocks = block_count (index_file asked.table asked.spec sorted);
-  claims = claims;
-}
+-- an index that was made: its rows, its file, how many blocks the heap has, and who claimed which
+pub record Made : Type 0 where
+  pub rows : List Record
+  pub image : List ℕ
+  pub heap_blocks : ℕ
+  pub claims : List Claim
 
--- what is delivered of them
-abbrev pub delivery_of : List (List ℕ) → Asked → List Record → List Claim → Delivery
-delivery_of words asked sorted claims =
-    let told = told_of asked sorted claims in
-    delivery (index_name words) (index_file asked.table asked.spec sorted)
-    (report_of (wants_claims words) claims asked.spec.method told.rows told.blocks)
+-- what is told of it
+abbrev pub told_of : Made → Told
+told_of made = record { rows = length made.rows; blocks = block_count made.image; claims = made.claims }
 
--- The claims are those of a scan of the heap's blocks by the leader and its workers. Of a heap file that isn't told the
--- blocks are some number.
-abbrev pub AreClaimsOf : List (List ℕ) → Outside → List Claim → Type 0
-AreClaimsOf words outside claims =
-    (blocks : ℕ) × OnToldFile outside.files (heap_name words) (λ heap. blocks ≡ block_count heap)
-    × IsLegal blocks (workers_of words + 1) claims
+-- what is delivered of it
+abbrev pub delivery_of : List (List ℕ) → Asked → Made → Delivery
+delivery_of words asked made =
+    let told = told_of made in
+    delivery (index_name words) made.image
+    (report_of (wants_claims words) made.claims asked.spec.method told.rows told.blocks)
 
--- The words ask for an index and the heap file comes to its rows in order, and its blocks were claimed so.
-pub record Builds (words : List (List ℕ)) (outside : Outside) (asked : Asked) (sorted : List Record) (claims : List Claim)
-    : Type 0 where
-  pub asks : AsksToBuild words asked
+-- The words ask for an index, the heap file comes to its rows, the leader and its workers claimed the heap's blocks so,
+-- and this is a file of the index. Of a heap file that isn't told the blocks are some number.
+pub record Builds (words : List (List ℕ)) (outside : Outside) (asked : Asked) (made : Made) : Type 0 where
+  pub asks : Asks words asked
+  pub index : IsIndexOver asked.table asked.spec
   pub heap : OnToldFile outside.files (heap_name words)
-      (λ heap. HasHeapOutcome asked heap (OfBlocks (Sorted sorted)))
-  pub claimed : AreClaimsOf words outside claims
+      (λ heap. HasHeapOutcome asked heap (OfBlocks (Indexed made.rows)))
+  pub blocks : OnToldFile outside.files (heap_name words) (λ heap. made.heap_blocks ≡ block_count heap)
+  pub claimed : IsLegal made.heap_blocks (workers_of words + 1) made.claims
+  pub file : IsIndexFile asked.table asked.spec made.heap_blocks made.rows made.image
 
 -- How a run ends: it refused what words and heap file came to; or it built and delivered the index; or the index and
 -- its report got no further than a write fault let them; or the heap file couldn't be read, or memory ran out, before
@@ -71,13 +71,11 @@ pub record Builds (words : List (List ℕ)) (outside : Outside) (asked : Asked) 
 pub data Ends (words : List (List ℕ)) (old new : Outside) (told : Told) (fault : Option Fault) : Type 0 where
   Refused : (outcome : Outcome) → HasOutcome words old.files outcome → fault ≡ fault_of outcome → IsSome fault
       → OnlyReads old new → told ≡ nothing → Ends words old new told fault
-  Built : (asked : Asked) (sorted : List Record) → Builds words old asked sorted told.claims → fault ≡ None
-      → IsDelivered (delivery_of words asked sorted told.claims) old new → told ≡ told_of asked sorted told.claims
-      → Ends words old new told fault
-  Cut : (asked : Asked) (sorted : List Record) (claims : List Claim) → Builds words old asked sorted claims
-      → fault ≡ Some faults.WriteFault → IsCutShort (delivery_of words asked sorted claims) old new → told ≡ nothing
-      → Ends words old new told fault
-  Unread : (asked : Asked) → AsksToBuild words asked → fault ≡ Some faults.ReadFault → OnlyReads old new
+  Built : (asked : Asked) (made : Made) → Builds words old asked made → fault ≡ None
+      → IsDelivered (delivery_of words asked made) old new → told ≡ told_of made → Ends words old new told fault
+  Cut : (asked : Asked) (made : Made) → Builds words old asked made → fault ≡ Some faults.WriteFault
+      → IsCutShort (delivery_of words asked made) old new → told ≡ nothing → Ends words old new told fault
+  Unread : (asked : Asked) → Asks words asked → fault ≡ Some faults.ReadFault → OnlyReads old new
       → told ≡ nothing → Ends words old new told fault
   WithoutMemory : IsInGrammar words → fault ≡ Some faults.OutOfMemory → OnlyReads old new → told ≡ nothing
       → Ends words old new told fault
@@ -91,8 +89,7 @@ IsGivenUp fault = (fault ≡ Some faults.ReadFault) ⊎ (fault ≡ Some faults.O
 abbrev pub MayAnswer : Outcome → Option Fault → Type 0
 MayAnswer (Usage word) fault = ⊥
 MayAnswer (Statement refused) fault = fault ≡ Some faults.OutOfMemory
-MayAnswer (NotYet form) fault = fault ≡ Some faults.OutOfMemory
-MayAnswer (OfHeap (OfBlocks (Sorted sorted))) fault = IsGivenUp fault ⊎ (fault ≡ Some faults.WriteFault)
+MayAnswer (OfHeap (OfBlocks (Indexed rows))) fault = IsGivenUp fault ⊎ (fault ≡ Some faults.WriteFault)
 MayAnswer (OfHeap refused) fault = IsGivenUp fault
 
 -- what a build answers, by what the words and the heap file came to

@@ -1,8 +1,6 @@
 -- The two statements of a build, as its words give them.
-use Rattle.std.specs.Prelude.{ℕ, List, Option, Some, None, Result, Ok, Err}
+use Rattle.std.specs.Prelude.{ℕ, List, Result, Ok, Err}
 use Rattle.opclass.specs.declared.table.Table.{Table}
-use Rattle.opclass.specs.declared.types.Method.{Method}
-use Rattle.opclass.specs.declared.types.Method.TheVariants.{BTree, Brin, Gin}
 use Rattle.index_stmt.specs.declared.fault.StmtFault.{StmtFault}
 use Rattle.index_stmt.specs.Faults.{index_of, table_of}
 use Rattle.pg_index.specs.Words.{index_text, table_text}
@@ -25,9 +23,3 @@ asked_by table index = elim (table_of table) [
 -- what the words of a build ask for
 abbrev pub asked_of : List (List ℕ) → Result Asked StmtFault
 asked_of words = asked_by (table_text words) (index_text words)
-
--- the form by which a method is told whose indexes aren't built yet
-abbrev pub form_of : Method → Option ℕ
-form_of BTree = None
-form_of Brin = Some 9
-form_of Gin = Some 10

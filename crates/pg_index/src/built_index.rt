@@ -1,8 +1,7 @@
-ghost use Rattle.std.specs.Prelude.{◌≡◌, IfErr, IfOk, None};
+ghost use Rattle.std.specs.Prelude.{◌≡◌, IfErr, IfOk};
 ghost use Rattle.opclass.specs.Indexes.{IsIndexOver, IsTable};
 ghost use Rattle.pg_index.specs.Calls.BuiltIndex.{IsHeapFault, IsIndexOf, IsManner};
 ghost use Rattle.pg_index.specs.Report.{claims_told};
-ghost use Rattle.pg_index.specs.Statements.{form_of};
 
 use crate::fault::HeapFault;
 use crate::heap_file::check_whole;
@@ -48,7 +47,6 @@ pub fn build_index<Rt: Threads + Sync, G: Gate + Sync>(
 ) -> Result<BuiltIndex, HeapFault>
     requires table { IsTable asked.table }
     requires index { IsIndexOver asked.table asked.spec }
-    requires form { form_of asked.spec.method ≡ None }
     requires manner { IsManner manner }
     ensures built { IfOk result (IsIndexOf asked manner heap.now) }
     ensures refused { IfErr result (IsHeapFault asked heap.now) }

@@ -6,7 +6,7 @@ ghost use Rattle.pg_index.specs.Answer.{status_of};
 ghost use Rattle.pg_index.specs.Calls.BuiltIndex.{told_of_index};
 ghost use Rattle.pg_index.specs.End.{told_by};
 ghost use Rattle.pg_index.specs.Headline.{Headline};
-ghost use Rattle.pg_index.specs.Outcome.{AsksToBuild, HasOutcome, Outcome};
+ghost use Rattle.pg_index.specs.Outcome.{Asks, HasOutcome, Outcome};
 ghost use Rattle.pg_index.specs.Run.{Ends, IsAnswered, nothing};
 ghost use Rattle.pg_index.specs.Words.{IsUsageFault, heap_name, index_name, texts_of};
 ghost use Rattle.pg_index.specs.declared.statements.Asked.{Asked};
@@ -16,7 +16,7 @@ use crate::deliver::deliver;
 use crate::ended::Ended;
 use crate::fault::Fault;
 use crate::heap_file::read_heap;
-use crate::statements::{form_of, read_statements};
+use crate::statements::read_statements;
 use crate::words::read_words;
 use build_leader::Gate;
 use pg_files::Files;
@@ -57,7 +57,7 @@ pub fn run<Rt: Threads + Sync, F: Files, G: Gate + Sync>(
     ensures headline { (told : FileMap) (heap : List ℕ) (asked : Asked)
         → (F.outside files.old).files ≡ Some told
         → told (heap_name (texts_of words.now)) ≡ Some heap
-        → AsksToBuild (texts_of words.now) asked
+        → Asks (texts_of words.now) asked
         → Headline (texts_of words.now) asked heap (F.outside files.old) (F.outside files.new)
         (told_by result) result.fault }
 
@@ -105,9 +105,6 @@ fn build<Rt: Threads + Sync, F: Files, G: Gate + Sync>(
         Err(word) => return Err(Fault::Usage { word }),
     };
     let asked = read_statements(alloc, words.table_statement, words.index_statement)?;
-    if let Some(form) = form_of(asked.spec.method) {
-        return Err(Fault::NotYet { form });
-    }
     let heap = read_heap(alloc, files, words.heap)?;
     let index = build_index(rt, alloc, &heap, asked, words.manner(), gate)?;
     deliver(

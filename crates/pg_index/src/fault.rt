@@ -68,15 +68,15 @@ pub enum Fault {
     /// Two rows have keys that a unique index takes once: the first two in the index's order.
     #[error("duplicate key: ({},{}) and ({},{})", .first.block, .first.offset, .second.block, .second.offset)]
     Duplicate { first: RowPtr, second: RowPtr },
+    /// The least range of a BRIN index, counted from 0, whose tuple no page takes, and its size.
+    #[error("range {range} too wide: {size} bytes")]
+    RangeWide { range: u32, size: u64 },
     /// The index file couldn't be written, or the report not be said.
     #[error("write fault")]
     WriteFault,
     /// Memory ran out. Nothing was changed.
     #[error("out of memory")]
     OutOfMemory,
-    /// An index of a method that isn't built yet: 9 is BRIN, 10 is GIN.
-    #[error("not yet: form {form}")]
-    NotYet { form: u32 },
 }
 
 impl Fault {
@@ -100,9 +100,9 @@ impl Fault {
                 first: _,
                 second: _,
             } => 6,
+            Fault::RangeWide { range: _, size: _ } => 7,
             Fault::WriteFault => 8,
             Fault::OutOfMemory => 10,
-            Fault::NotYet { form: _ } => 11,
         }
     }
 }
@@ -153,6 +153,9 @@ impl From<HeapFault> for Fault {
             }
             HeapFault::Lead(LeadFault::Duplicate { first, second }) => {
                 Fault::Duplicate { first, second }
+            }
+            HeapFault::Lead(LeadFault::RangeWide { range, size }) => {
+                Fault::RangeWide { range, size }
             }
             HeapFault::Lead(LeadFault::Memory) => Fault::OutOfMemory,
         }

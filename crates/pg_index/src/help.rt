@@ -25,9 +25,9 @@ exit status, with a line on standard error where it isn't 0:
    4  the heap file couldn't be read
    5  the heap is at fault: its block, item and cause are told
    6  two rows have one key in a unique index: where they stand is told
+   7  a range of a BRIN index is too wide for a page: it and its size are told
    8  the index file or the report couldn't be written
   10  out of memory: nothing was changed
-  11  not yet: form 9 an index by BRIN, 10 one by GIN
 
 After every status but 0 and 8 the index file is as it was.
 ";

@@ -1,10 +1,10 @@
-ghost use Rattle.std.specs.Prelude.{◌≡◌, IfOk};
+ghost use Rattle.std.specs.Prelude.{IfOk};
 ghost use Rattle.index_stmt.specs.Answers.{Answers};
 ghost use Rattle.opclass.specs.Indexes.{IsIndexOver, IsTable};
-ghost use Rattle.pg_index.specs.Statements.{asked_by, form_of};
+ghost use Rattle.pg_index.specs.Statements.{asked_by};
 
 use index_stmt::{ReadStmt, read_index, read_table};
-use opclass::{IndexSpec, Method, Table};
+use opclass::{IndexSpec, Table};
 use std::alloc::Global;
 
 /// What the statements of a build ask for: a table, and an index over it.
@@ -23,15 +23,4 @@ pub fn read_statements(alloc: Global, table: &str, index: &str) -> Result<Asked,
     let table = read_table(alloc, table.as_bytes())?;
     let spec = read_index(alloc, index.as_bytes(), &table)?;
     Ok(Asked { table, spec })
-}
-
-/// The form by which a method is told whose indexes aren't built yet.
-pub fn form_of(method: Method) -> Option<u32>
-    ensures { result ≡ form_of method }
-{
-    match method {
-        Method::BTree => None,
-        Method::Brin => Some(9),
-        Method::Gin => Some(10),
-    }
 }

@@ -42,9 +42,16 @@ const FAULTS: [(Fault, u8, &str); 8] = [
         6,
         "duplicate key: (0,1) and (131071,226)",
     ),
+    (
+        Fault::RangeWide {
+            range: 131_071,
+            size: 8160,
+        },
+        7,
+        "range 131071 too wide: 8160 bytes",
+    ),
     (Fault::WriteFault, 8, "write fault"),
     (Fault::OutOfMemory, 10, "out of memory"),
-    (Fault::NotYet { form: 9 }, 11, "not yet: form 9"),
 ];
 
 #[test]
@@ -75,6 +82,7 @@ fn help_is_one_screen(rt: HostRuntime) -> Result<(), Fail> {
         "--version",
         "\n   3  a statement is at fault",
         "\n   6  two rows",
+        "\n   7  a range",
         "\n  10  out of memory",
     ] {
         assert!(rt; HELP.contains(part), "{part}");
