@@ -20,7 +20,8 @@
 //! its root offset, and a walk stops at an item that has one already, since all that follows has
 //! one as well. So each item is visited once, whatever the redirects of a hostile page lead to.
 //! Then the live items are taken by ascending number, each with its root, and each root is marked
-//! as in the index, which tells the first that is shared.
+//! as in the index, which tells the first that is shared. A page without a heap-only row, as most
+//! are, needs no walk: its rows are their own roots.
 //!
 //! # What it promises
 //!

@@ -1,6 +1,6 @@
 ghost use Rattle.std.specs.Prelude.{◌≡◌, ◌+◌, IfOk, length};
 ghost use Rattle.heap_page.specs.Line.{IsLine, line_count};
-ghost use Rattle.hot_chain.specs.Pass.RootOffsets.{AreGreatestFrom, IsClosed, IsWalked};
+ghost use Rattle.hot_chain.specs.Pass.RootOffsets.{AreRootOffsets, IsClosed, IsWalked};
 
 use crate::chain::{head_of, next_of};
 use heap_page::View;
@@ -10,8 +10,7 @@ use std::alloc::{AllocError, Global};
 // (`heap_get_root_tuples` of `pruneheap.c`). The starts are walked from the greatest down, so an
 // item gets its root offset once.
 pub(crate) fn root_offsets_of(alloc: Global, view: &View) -> Result<Vec<Option<u16>>, AllocError>
-    ensures room { IfOk result (λ offsets. length offsets.items ≡ line_count view.now.bytes + 1) }
-    ensures exact { IfOk result (λ offsets. AreGreatestFrom view.now.bytes 1 offsets.items) }
+    ensures { IfOk result (λ offsets. AreRootOffsets view.now.bytes offsets.items) }
 {
     let mut offsets = vec![in alloc; None; usize::from(view.lines()) + 1]?;
     for start in (1..view.lines() + 1).rev() {

@@ -12,7 +12,7 @@ returns-then-in_index-from-clause-err c =
     let live : IsLive c.args.view.now.bytes c.args.item = search rules in
     let shared : IsInIndex c.args.in_index.now c.in-Some.root = search rules in
     rw c.of-then-in_index-from.ensures
-    (fault_shared _ _ _ _ c.requires.done c.in-Some.root live c.in-Some.ensures.root shared)
+    (fault_shared _ _ _ _ c.requires.done c.in-Some.root live (search rules) shared)
 
 pub returns-clause-ok : goal.returns-clause-ok
 returns-clause-ok c =
@@ -20,4 +20,4 @@ returns-clause-ok c =
     let free : get_or c.args.in_index.now c.in-Some.root false ≡ false = search rules in
     let inside : c.in-Some.root < length c.args.in_index.now = search rules in
     rw (c.in_ok-push.ensures, c.from-2.ensures)
-    (rows_add _ _ _ _ c.requires.done c.in-Some.root live c.in-Some.ensures.root free inside)
+    (rows_add _ _ _ _ c.requires.done c.in-Some.root live (search rules) free inside)

@@ -24,5 +24,8 @@ loop-start-preserved c =
       greatest = fill_steps _ _ _ _ _ (omega arith) c.loop-start.invariant.greatest walked;
     }
 
-pub returns-clause-exact : goal.returns-clause-exact
-returns-clause-exact c = fill_ends _ _ _ c.loop-start-test.false c.loop-start.invariant.greatest
+pub returns : goal.returns
+returns c = record {
+  room = c.loop-start.invariant.room;
+  greatest = fill_ends _ _ _ c.loop-start-test.false c.loop-start.invariant.greatest;
+}
