@@ -1,8 +1,8 @@
 -- The values of an index's columns, out of those of the needed ones.
-use Rattle.std.proofs.Common.{◌≡◌, ℕ, zero, suc, ◌+◌, ◌-◌, ◌<◌, true, false, eqb, List, [], ◌∷◌, ◌++◌, length, map, reverse, take, get_or, Option, Some, slice_get, refl, sym, ap, ap₂, subst, ◌∙◌, arith, All}
+use Rattle.std.proofs.Common.{◌≡◌, ℕ, zero, suc, ◌+◌, ◌-◌, ◌<◌, ◌≤◌, true, false, eqb, List, [], ◌∷◌, ◌++◌, length, map, take, drop, get_or, Option, Some, slice_get, refl, sym, ap, ap₂, subst, ◌∙◌, arith, All}
 use Rattle.std.specs.Prelude.{IfSome}
 use Rattle.std.proofs.lemmas.Bool.{eq-eqb, ne_eqb}
-use Rattle.std.proofs.lemmas.List.{append_assoc, map-append, reverse-append, take_more}
+use Rattle.std.proofs.lemmas.List.{append_assoc, drop-append-le, length-append, length-drop, length-take, map-append, take-append-drop, take-append-le, take_all, take_more}
 use Rattle.std.proofs.lemmas.List.Elements.{All-cons, All-head, All-nil, All-tail, All-weaker}
 use Rattle.std.proofs.lemmas.Option.{slice_get_within, slice_get-get_or}
 use Rattle.run_merge.proofs.Sorting.{Pairs}
@@ -47,13 +47,76 @@ found_more items places wanted i place d inside are is =
     subst (λ front. AreAt items (places ++ place ∷ []) front) (sym (take_more wanted i d inside))
     (at_push items places (take i wanted) place (get_or wanted i d) are is)
 
--- ---- taking off the end
+-- the last of several items, behind the earlier ones
+pub at_last : {X : Type 0} (items : List X) (places : List ℕ) (picked : List X) (x : X) → 1 ≤ length places
+    → AreAt items (take (length places - 1) places) picked → slice_get items (get_or places (length places - 1) 0) ≡ Some x
+    → AreAt items places (picked ++ x ∷ [])
+at_last items places picked x some are is =
+    let n = length places - 1 in
+    let e : n + 1 ≡ length places = omega arith in
+    subst (λ all. AreAt items all (picked ++ x ∷ [])) (ap (λ (k : ℕ). take k places) e ∙ take_all (length places) places (omega arith))
+    (at_more items places picked n (get_or places n 0) x (omega arith) are refl is)
 
-pub taken_off : {X : Type 0} (all old new last : List X) (x : X) → all ≡ old ++ reverse last → old ≡ new ++ x ∷ []
-    → all ≡ new ++ reverse (last ++ x ∷ [])
-taken_off all old new last x whole one =
-    whole ∙ ap (λ front. front ++ reverse last) one ∙ append_assoc new (x ∷ []) (reverse last)
-    ∙ ap (λ back. new ++ back) (sym (reverse-append last (x ∷ [])))
+-- ---- values that are moved from the end of a list
+
+-- the last one of the first so many
+pub last_of_front : {X : Type 0} (items front : List X) (place : ℕ) (x : X) → place < length items
+    → take (place + 1) items ≡ front ++ x ∷ [] → slice_get items place ≡ Some x
+last_of_front [] front place x inside is = absurd (omega arith)
+last_of_front (item ∷ items) [] zero x inside is = cc
+last_of_front (item ∷ items) (first ∷ front) zero x inside is =
+    let sizes = ap length is in
+    let longer = length-append front (x ∷ []) in
+    absurd (omega arith)
+last_of_front (item ∷ items) [] (suc place) x inside is =
+    let sizes = ap length is in
+    let size = length-take (suc place + 1) (item ∷ items) in
+    absurd (omega arith)
+last_of_front (item ∷ items) (first ∷ front) (suc place) x inside is =
+    let e : suc place + 1 ≡ suc (place + 1) = omega arith in
+    let is' : take (suc (place + 1)) (item ∷ items) ≡ first ∷ front ++ x ∷ [] = sym (ap (λ (n : ℕ). take n (item ∷ items)) e) ∙ is in
+    let tail : take (place + 1) items ≡ front ++ x ∷ [] = ap (λ l. drop 1 l) is' in
+    last_of_front items front place x (omega arith) tail
+
+module _ {X : Type 0} (old mid : List X) (x : X) (count : ℕ) (is : old ≡ mid ++ x ∷ []) (some : 1 ≤ count) (most : count ≤ length old) where
+  sizes : length old ≡ length mid + 1
+  sizes = ap length is ∙ length-append mid (x ∷ [])
+
+  same : length old - count ≡ length mid - (count - 1)
+  same = let size = sizes in omega arith
+
+  inside : length mid - (count - 1) ≤ length mid
+  inside = omega arith
+
+  -- what is left of the list
+  pub left_more : (new : List X) → new ≡ take (length mid - (count - 1)) mid → new ≡ take (length old - count) old
+  left_more new left =
+      left ∙ sym (take-append-le (length mid - (count - 1)) mid (x ∷ []) inside)
+      ∙ ap₂ (λ (n : ℕ) (l : List X). take n l) (sym same) (sym is)
+
+  -- and what came behind the other one
+  pub moved_more : (to before after : List X) → before ≡ to ++ drop (length mid - (count - 1)) mid → after ≡ before ++ x ∷ []
+      → after ≡ to ++ drop (length old - count) old
+  moved_more to before after moved put =
+      put ∙ ap (λ (l : List X). l ++ x ∷ []) moved ∙ append_assoc to (drop (length mid - (count - 1)) mid) (x ∷ [])
+      ∙ ap (λ (l : List X). to ++ l) (sym (drop-append-le (length mid - (count - 1)) mid (x ∷ []) inside)
+      ∙ ap₂ (λ (n : ℕ) (l : List X). drop n l) (sym same) (sym is))
+
+-- all of them
+pub all_moved : {X : Type 0} (old left : List X) (count : ℕ) → count ≡ length old → left ≡ take (length old - count) old → left ≡ []
+all_moved old left count is taken =
+    let none : length old - count ≡ 0 = omega arith in
+    taken ∙ ap (λ (n : ℕ). take n old) none
+
+-- so many of them, behind none
+pub split : {X : Type 0} (items front before behind : List X) (count : ℕ) → count ≤ length items → before ≡ []
+    → front ≡ take (length items - count) items → behind ≡ before ++ drop (length items - count) items
+    → (items ≡ front ++ behind) × (length behind ≡ count)
+split items front before behind count most none taken moved =
+    let n = length items - count in
+    let is : behind ≡ drop n items = moved ∙ ap (λ l. l ++ drop n items) none in
+    let size = length-drop n items in
+    (sym (take-append-drop n items) ∙ ap₂ (λ a b. a ++ b) (sym taken) (sym is), omega (arith, ap length is, size))
 
 -- ---- values by their columns
 

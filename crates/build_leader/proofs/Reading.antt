@@ -1,6 +1,6 @@
 -- How an item is read, and what its record is.
-use Rattle.std.proofs.Common.{◌≡◌, ◌≢◌, ℕ, ◌+◌, ◌^◌, ◌<◌, ◌≤◌, List, [], ◌∷◌, ◌++◌, length, map, take, drop, get_or, true, Some, Result, Ok, Err, slice_get, refl, sym, ap, ap₂, subst, ◌∙◌, arith, All}
-use Rattle.std.specs.Prelude.{IfSome, IsTrue}
+use Rattle.std.proofs.Common.{◌≡◌, ◌≢◌, ◌⊎◌, inl, inr, ℕ, ◌+◌, ◌^◌, ◌<◌, ◌≤◌, List, [], ◌∷◌, ◌++◌, length, map, take, drop, get_or, Bool, true, false, Some, Result, Ok, slice_get, refl, sym, ap, ap₂, subst, ◌∙◌, arith, rules, All}
+use Rattle.std.specs.Prelude.{◌↔◌, IfSome, IsTrue}
 use Rattle.std.specs.List.{AllZip}
 use Rattle.std.proofs.lemmas.Bool.{true≢false}
 use Rattle.std.proofs.lemmas.List.{drop_at, length-append, length-drop, length-map, map-append, take-append-drop, take_at}
@@ -49,7 +49,7 @@ use Rattle.build_leader.specs.Entries.{array_of}
 use Rattle.build_leader.specs.Holding.{IsTakeableBy}
 use Rattle.build_leader.specs.IndexRow.{AreTooWide, AreValuesOf, HasIndexValues, IsLeftOut, TooWide, Unread, index_columns, index_kinds, key_columns, needed_of}
 use Rattle.build_leader.specs.Outcome.{order_of_index}
-use Rattle.build_leader.specs.Reader.{AreAt, AreRead, IsItemFault, IsReadRecord, IsReadable, IsSoundItem, IsSoundReader, IsWidthFault}
+use Rattle.build_leader.specs.Reader.{AreAt, AreNeeded, AreNeededOrLeft, AreRead, AreReadOrLeft, IsItemFault, IsReadRecord, IsReadable, IsSoundItem, IsSoundReader, IsWidthFault, ReaderView}
 use Rattle.build_leader.proofs.EntryRecords.{row_is_storable, short_values, typed_values}
 use Rattle.build_leader.proofs.Needed.{columns_are_keys, needed_ascends, needed_columns}
 use Rattle.build_leader.proofs.Picking.{Less, are_key_values, own_values, picks, places_inside, places_of_keys}
@@ -89,89 +89,149 @@ module _ (table : Table) (spec : IndexSpec) where
   pub few_columns : IsReadable table spec → length spec.keys + length spec.includes ≤ 32
   few_columns index = let most = index.over.most in let few = most_are_few spec.method in omega arith
 
-  -- several columns hold no arrays
-  no_arrays : IsReadable table spec → 2 ≤ length (index_columns spec) → spec.method ≢ method.Gin
-  no_arrays index several gin =
-      let one : length spec.keys + length spec.includes ≤ most_columns method.Gin =
-      subst (λ (m : Method). length spec.keys + length spec.includes ≤ most_columns m) gin index.over.most in
-      let count = columns_count in
-      omega (arith, several, one)
+-- ---- what a reader has inside
 
--- ---- the reader's columns and values
+abbrev pub seen : Inside → ReaderView
+seen inside = record { table = inside.table.now; spec = inside.spec.now }
 
-module _ (inside : Inside) (sound : IsSoundReader inside) where
+-- it is of the table and the index as which the reader is seen
+pub record IsInsideOf (reader : ReaderView) (inside : Inside) : Type 0 where
+  pub table : inside.table.now ≡ reader.table
+  pub spec : inside.spec.now ≡ reader.spec
+  pub index : IsReadable reader.table reader.spec
+  pub needed : inside.needed ≡ needed_of reader.table reader.spec
+  pub kinds : inside.kinds ≡ index_kinds reader.table reader.spec
+  pub places : AreAt (needed_of reader.table reader.spec) inside.places.items (index_columns reader.spec)
+  pub as_needed : IsTrue inside.as_needed → needed_of reader.table reader.spec ≡ index_columns reader.spec
+
+pub inside_of : (reader : ReaderView) (inside : Inside) → IsSoundReader inside → seen inside ≡ reader → IsInsideOf reader inside
+inside_of reader inside sound is = subst (λ (r : ReaderView). IsInsideOf r inside) is (record {
+  table = refl;
+  spec = refl;
+  index = sound.index;
+  needed = sound.needed;
+  kinds = sound.kinds;
+  places = subst (λ (needed : List ℕ). AreAt needed inside.places.items (index_columns inside.spec.now)) sound.needed sound.places;
+  as_needed = λ told. sym sound.needed ∙ sound.as_needed told;
+})
+
+module _ (reader : ReaderView) (inside : Inside) (of : IsInsideOf reader inside) where
+  abbrev needed_here : List ℕ
+  needed_here = needed_of reader.table reader.spec
+
+  needed_up : Pairs Less needed_here
+  needed_up =
+      Pairs-from Less needed_here (AllPairs-from_increasing needed_here (needed_ascends reader.table reader.spec))
+
   pub needed_are : AreColumnsOf inside.table.now.columns inside.needed
   needed_are =
-      subst (λ (needed : List ℕ). AreColumnsOf inside.table.now.columns needed) (sym sound.needed)
-      (needed_columns inside.table.now inside.spec.now)
+      subst (λ (needed : List ℕ). AreColumnsOf inside.table.now.columns needed) (sym of.needed)
+      (subst (λ (table : Table). AreColumnsOf table.columns needed_here) (sym of.table) (needed_columns reader.table reader.spec))
 
-  needed_up : Pairs Less inside.needed
-  needed_up =
-      subst (λ (needed : List ℕ). Pairs Less needed) (sym sound.needed)
-      (Pairs-from Less (needed_of inside.table.now inside.spec.now)
-      (AllPairs-from_increasing (needed_of inside.table.now inside.spec.now) (needed_ascends inside.table.now inside.spec.now)))
+  -- others than GIN take no arrays
+  pub no_arrays : (inside.spec.now.method ≡ method.BTree) ⊎ (inside.spec.now.method ≡ method.Brin) → reader.spec.method ≢ method.Gin
+  no_arrays (inl tree) gin = let same = ap (λ (spec : IndexSpec). spec.method) of.spec in cc
+  no_arrays (inr ranges) gin = let same = ap (λ (spec : IndexSpec). spec.method) of.spec in cc
 
-  pub are_inside : (most : ℕ) (values : List KeyVal) → AreReadOf inside.table.now.columns most inside.needed values
-      → All (λ place. place < length values) inside.places.items
-  are_inside most values read =
-      places_inside inside.table.now most inside.needed values read inside.places.items (index_columns inside.spec.now)
-      sound.places
+  -- an index of arrays has one column
+  pub one_place : reader.spec.method ≡ method.Gin → length inside.places.items ≡ 1
+  one_place gin =
+      let most : length reader.spec.keys + length reader.spec.includes ≤ most_columns method.Gin =
+      subst (λ (m : Method). length reader.spec.keys + length reader.spec.includes ≤ most_columns m) gin of.index.over.most in
+      let some = of.index.over.some in
+      let places = length-map inside.places.items (slice_get needed_here) in
+      let columns = length-map (index_columns reader.spec) Some in
+      let same = ap length of.places in
+      let count = columns_count reader.table reader.spec in
+      omega (arith, most, some, places, columns, same, count)
 
-  pub are_keys : (most : ℕ) (values : List KeyVal) → AreReadOf inside.table.now.columns most inside.needed values
-      → 2 ≤ length inside.places.items → All (λ place. IfSome (slice_get values place) IsKeyValue) inside.places.items
-  are_keys most values read several =
-      let places = length-map inside.places.items (slice_get inside.needed) in
-      let columns = length-map (index_columns inside.spec.now) Some in
-      let same = ap length sound.places in
-      places_of_keys inside.table.now most inside.needed values read inside.places.items (index_columns inside.spec.now)
-      sound.places
-      (tree_keys inside.table.now inside.spec.now sound.index
-      (no_arrays inside.table.now inside.spec.now sound.index (omega (arith, several, places, columns, same))))
+  pub its_place : reader.spec.method ≡ method.Gin → (place : ℕ) → place ≡ get_or inside.places.items 0 place
+      → place ∷ [] ≡ inside.places.items
+  its_place gin place is = alone inside.places.items place (one_place gin) is
+    where
+      alone : (places : List ℕ) (place : ℕ) → length places ≡ 1 → place ≡ get_or places 0 place → place ∷ [] ≡ places
+      alone [] place one is = absurd (omega arith)
+      alone (first ∷ []) place one is = ap (λ (p : ℕ). p ∷ []) is
+      alone (first ∷ other ∷ places) place one is = absurd (omega arith)
 
   module _ (page : List ℕ) (item : ℕ) where
-    -- what the tuple has for these columns
-    abbrev reading : List ℕ → Result (List KeyVal) RowCause
-    reading needed = values_of (tuple_of page item) inside.table.now.columns needed
+    -- what the tuple has for the needed columns
+    abbrev reading : Result (List KeyVal) RowCause
+    reading = values_of (tuple_of page item) inside.table.now.columns inside.needed
+
+    abbrev reading_here : Result (List KeyVal) RowCause
+    reading_here = values_of (tuple_of page item) reader.table.columns needed_here
+
+    same_reading : reading ≡ reading_here
+    same_reading =
+        ap₂ (λ (table : Table) (needed : List ℕ). values_of (tuple_of page item) table.columns needed) of.table of.needed
 
     -- a column that can't be read is the item's fault
-    pub unread : (fault : RowFault) → IsLive page item → IsFaultOf (reading inside.needed) fault
-        → IsItemFault inside.table.now inside.spec.now page item fault
-    unread (Value number) live is =
-        (Unread is.0, (live, subst (λ (needed : List ℕ). reading needed ≡ Err is.0) sound.needed is.1), is.2)
+    pub unread : (fault : RowFault) → IsLive page item → IsFaultOf reading fault
+        → IsItemFault reader.table reader.spec page item fault
+    unread (Value number) live is = (Unread is.0, (live, sym same_reading ∙ is.1), is.2)
     unread Memory live is = tt
 
-    read_values : (values picked : List KeyVal) → length page ≡ page_size → reading inside.needed ≡ Ok values
-        → PassesFilter inside.spec.now.filter inside.needed values
-        → AreValuesOf inside.needed values (index_columns inside.spec.now) picked
-        → AreReadOf inside.table.now.columns (length page) (index_columns inside.spec.now) picked
-        → AreRead inside.table.now inside.spec.now page item picked
-    read_values values picked size read kept are typed = record {
-      values = values;
-      read = subst (λ (needed : List ℕ). reading needed ≡ Ok values) sound.needed read;
-      kept = subst (λ (needed : List ℕ). PassesFilter inside.spec.now.filter needed values) sound.needed kept;
-      are = subst (λ (needed : List ℕ). AreValuesOf needed values (index_columns inside.spec.now) picked) sound.needed are;
-      typed = subst (λ (most : ℕ). AreReadOf inside.table.now.columns most (index_columns inside.spec.now) picked) size typed;
-    }
-
-    pub read_as_needed : (values : List KeyVal) → length page ≡ page_size → reading inside.needed ≡ Ok values
+    -- what was read of the needed columns, and what WHERE says of it
+    pub needed_or_left : (values : List KeyVal) (kept : Bool) → length page ≡ page_size → reading ≡ Ok values
         → AreReadOf inside.table.now.columns (length page) inside.needed values
-        → PassesFilter inside.spec.now.filter inside.needed values → IsTrue inside.as_needed
-        → AreRead inside.table.now inside.spec.now page item values
-    read_as_needed values size read typed kept as_needed =
-        let same = sound.as_needed as_needed in
-        read_values values values size read kept
-        (subst (λ (columns : List ℕ). AreValuesOf inside.needed values columns values) same
-        (own_values inside.table.now.columns (length page) inside.needed values needed_up typed))
-        (subst (λ (columns : List ℕ). AreReadOf inside.table.now.columns (length page) columns values) same typed)
+        → (IsTrue kept ↔ PassesFilter inside.spec.now.filter inside.needed values)
+        → AreNeededOrLeft reader.table reader.spec page item kept values
+    needed_or_left values kept size read typed is =
+        by_where kept (subst (λ (spec : IndexSpec). IsTrue kept ↔ PassesFilter spec.filter needed_here values) of.spec
+        (subst (λ (needed : List ℕ). IsTrue kept ↔ PassesFilter inside.spec.now.filter needed values) of.needed is))
+      where
+        by_where : (kept : Bool) → (IsTrue kept ↔ PassesFilter reader.spec.filter needed_here values)
+            → AreNeededOrLeft reader.table reader.spec page item kept values
+        by_where true is = record {
+          read = sym same_reading ∙ read;
+          kept = is.0 (search rules);
+          typed =
+              subst (λ (most : ℕ). AreReadOf reader.table.columns most needed_here values) size
+              (subst (λ (table : Table). AreReadOf table.columns (length page) needed_here values) of.table
+              (subst (λ (needed : List ℕ). AreReadOf inside.table.now.columns (length page) needed values) of.needed typed));
+        }
+        by_where false is = record {
+          values = values;
+          read = sym same_reading ∙ read;
+          left_out = λ passes. true≢false (sym (search (rules, is.1 passes)));
+        }
 
-    pub read_picked : (values picked : List KeyVal) → length page ≡ page_size → reading inside.needed ≡ Ok values
-        → AreReadOf inside.table.now.columns (length page) inside.needed values
-        → PassesFilter inside.spec.now.filter inside.needed values → AreAt values inside.places.items picked
-        → AreRead inside.table.now inside.spec.now page item picked
-    read_picked values picked size read typed kept at =
-        let both = picks inside.table.now.columns (length page) inside.needed values needed_up typed inside.places.items
-        (index_columns inside.spec.now) picked sound.places at in
-        read_values values picked size read kept both.0 both.1
+    -- ---- the values of the index's columns, out of those of the needed ones
+
+    -- as they stand
+    pub as_they_stand : (kept : Bool) (values : List KeyVal) → IsTrue inside.as_needed
+        → AreNeededOrLeft reader.table reader.spec page item kept values
+        → AreReadOrLeft reader.table reader.spec page item kept values
+    as_they_stand false values as_needed out = out
+    as_they_stand true values as_needed here =
+        let same = of.as_needed as_needed in
+        record {
+          values = values;
+          read = here.read;
+          kept = here.kept;
+          are = subst (λ (columns : List ℕ). AreValuesOf needed_here values columns values) same
+              (own_values reader.table.columns page_size needed_here values needed_up here.typed);
+          typed = subst (λ (columns : List ℕ). AreReadOf reader.table.columns page_size columns values) same here.typed;
+        }
+
+    module _ (values : List KeyVal) (here : AreNeeded reader.table reader.spec page item values) where
+      pub are_inside : All (λ place. place < length values) inside.places.items
+      are_inside =
+          places_inside reader.table page_size needed_here values here.typed inside.places.items (index_columns reader.spec) of.places
+
+      pub are_keys : reader.spec.method ≢ method.Gin → All (λ place. IfSome (slice_get values place) IsKeyValue) inside.places.items
+      are_keys no_array =
+          places_of_keys reader.table page_size needed_here values here.typed inside.places.items (index_columns reader.spec)
+          of.places (tree_keys reader.table reader.spec of.index no_array)
+
+      -- from their places
+      pub picked_out : (picked : List KeyVal) → AreAt values inside.places.items picked
+          → AreRead reader.table reader.spec page item picked
+      picked_out picked at =
+          let both = picks reader.table.columns page_size needed_here values needed_up here.typed inside.places.items
+          (index_columns reader.spec) picked of.places at in
+          record { values = values; read = here.read; kept = here.kept; are = both.0; typed = both.1 }
 
 -- ---- what is read has few bytes
 

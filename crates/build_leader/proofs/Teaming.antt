@@ -21,6 +21,7 @@ use Rattle.shared_tape.specs.Runs.{RunView, records_of}
 use Rattle.run_merge.specs.Sorted.{all_records}
 use Rattle.build_leader.specs.declared.plan.Plan.{Plan}
 use Rattle.build_leader.specs.declared.ranges.SummedRange.{SummedRange}
+use Rattle.build_leader.specs.declared.row_slot.RowSlot.{RowSlot}
 use Rattle.build_leader.specs.declared.sink.Sink.{Sink}
 use Rattle.build_leader.specs.declared.team.Team.{Team}
 use Rattle.build_leader.specs.declared.worker.BlockFault.{BlockFault}
@@ -40,11 +41,11 @@ use Rattle.build_leader.proofs.Working.{judged_still}
 
 -- ---- what a worker begins with
 
-pub begun : (reader : ReaderView) (heap : List ℕ) (scan : ScanState) (worker : ℕ) (seat : SeatState) (sink : Sink)
+pub begun : (reader : ReaderView) (heap : List ℕ) (scan : ScanState) (worker : ℕ) (seat : SeatState) (sink : Sink) (slot : RowSlot)
     → IsFresh scan worker seat → Suits reader.spec sink → held_by sink ≡ nothing_held
-    → IsBetweenClaims reader heap scan (begun_with seat sink)
-begun reader heap scan worker seat sink fresh suits empty =
-    let share : Share = begun_with seat sink in
+    → IsBetweenClaims reader heap scan (begun_with seat sink slot)
+begun reader heap scan worker seat sink slot fresh suits empty =
+    let share : Share = begun_with seat sink slot in
     let least = ap least_of fresh.reports in
     let seen = fresh.seen in
     let none = ap length fresh.claims in

@@ -12,6 +12,7 @@ use Rattle.block_claim.specs.Calls.{ClaimsAreLegal, IsSeatOf, MakesReport, NoRep
 use Rattle.block_claim.specs.Views.{least_of, unreported}
 use Rattle.block_claim.proofs.Floors.{least_append, least_top}
 use Rattle.shared_tape.specs.declared.stored.Record.{Record}
+use Rattle.build_leader.specs.declared.row_slot.RowSlot.{RowSlot}
 use Rattle.build_leader.specs.declared.sink.Sink.{Sink}
 use Rattle.build_leader.specs.declared.worker.BlockFault.{BlockFault}
 use Rattle.build_leader.specs.declared.worker.Share.{Share}
@@ -83,11 +84,11 @@ module _ (reader : ReaderView) (heap : List ℕ) where
   }
 
   -- a sound block is taken
-  pub was_taken : (share : Share) (sink : Sink) (block rows count : ℕ)
+  pub was_taken : (share : Share) (sink : Sink) (slot : RowSlot) (block rows count : ℕ)
       → IsSoundBlock reader.table reader.spec (page_of heap block)
       → TakesPage reader.table reader.spec (page_of heap block) block share.sink count sink → rows ≡ share.rows + count
-      → TakesBlocks reader heap (block ∷ []) share (record share { sink = sink; rows = rows })
-  was_taken share sink block rows count sound takes sum before has = record {
+      → TakesBlocks reader heap (block ∷ []) share (record share { sink = sink; slot = slot; rows = rows })
+  was_taken share sink slot block rows count sound takes sum before has = record {
     judged = All-push (At share) before block has.judged (inl sound);
     falls = has.falls;
     kept = has.kept;
@@ -121,9 +122,9 @@ module _ (reader : ReaderView) (heap : List ℕ) where
   -- ---- the worker
 
   -- it took rows
-  pub worker_took : (scan : ScanState) (share : Share) (sink : Sink) (rows : ℕ) → IsWorker reader scan share
-      → StaysSuited share.sink sink → IsWorker reader scan (record share { sink = sink; rows = rows })
-  worker_took scan share sink rows worker stays = record {
+  pub worker_took : (scan : ScanState) (share : Share) (sink : Sink) (slot : RowSlot) (rows : ℕ) → IsWorker reader scan share
+      → StaysSuited share.sink sink → IsWorker reader scan (record share { sink = sink; slot = slot; rows = rows })
+  worker_took scan share sink slot rows worker stays = record {
     of_scan = worker.of_scan;
     own = worker.own;
     suits = stays_suited reader.spec share.sink sink stays worker.suits;
@@ -132,11 +133,11 @@ module _ (reader : ReaderView) (heap : List ℕ) where
   }
 
   -- or reported a block
-  pub worker_reported : (scan : ScanState) (share : Share) (seat : SeatState) (sink : Sink) (fault : Option BlockFault) (block : ℕ)
+  pub worker_reported : (scan : ScanState) (share : Share) (seat : SeatState) (sink : Sink) (slot : RowSlot) (fault : Option BlockFault) (block : ℕ)
       → IsWorker reader scan share → StaysSuited share.sink sink → MakesReport share.seat block seat → ClaimsAreLegal seat
       → NoReportIsMissed seat
-      → IsWorker reader scan (record { seat = seat; sink = sink; rows = share.rows; fault = fault })
-  worker_reported scan share seat sink fault block worker stays reports legal missed =
+      → IsWorker reader scan (record { seat = seat; sink = sink; slot = slot; rows = share.rows; fault = fault })
+  worker_reported scan share seat sink slot fault block worker stays reports legal missed =
       let is = reports.2 in
       record {
         of_scan =

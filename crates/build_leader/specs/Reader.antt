@@ -1,5 +1,5 @@
 -- What the rows of an index are read by, and what is read of a live item.
-use Rattle.std.specs.Prelude.{◌≡◌, ⊤, IsTrue, ℕ, List, map, Option, Some, None, Ok, slice_get}
+use Rattle.std.specs.Prelude.{◌≡◌, ⊤, IsTrue, ℕ, Bool, true, false, List, map, Some, Ok, slice_get}
 use Rattle.pg_bytes.specs.declared.row_ptr.RowPtr.{RowPtr}
 use Rattle.pg_bytes.specs.PageLayout.{page_size}
 use Rattle.opclass.specs.declared.spec.IndexSpec.{IndexSpec}
@@ -43,6 +43,16 @@ pub record IsSoundReader (reader : Inside) : Type 0 where
   pub places : AreAt reader.needed reader.places.items (index_columns reader.spec.now)
   pub as_needed : IsTrue reader.as_needed → reader.needed ≡ index_columns reader.spec.now
 
+-- the values of the needed columns of an item which WHERE keeps
+pub record AreNeeded (table : Table) (spec : IndexSpec) (page : List ℕ) (item : ℕ) (values : List KeyVal) : Type 0 where
+  pub read : values_of (tuple_of page item) table.columns (needed_of table spec) ≡ Ok values
+  pub kept : PassesFilter spec.filter (needed_of table spec) values
+  pub typed : AreReadOf table.columns page_size (needed_of table spec) values
+
+abbrev pub AreNeededOrLeft : Table → IndexSpec → List ℕ → ℕ → Bool → List KeyVal → Type 0
+AreNeededOrLeft table spec page item false values = IsLeftOut table spec page item
+AreNeededOrLeft table spec page item true values = AreNeeded table spec page item values
+
 -- the values of an index's columns that are read of an item which WHERE keeps
 pub record AreRead (table : Table) (spec : IndexSpec) (page : List ℕ) (item : ℕ) (picked : List KeyVal) : Type 0 where
   pub values : List KeyVal
@@ -51,10 +61,10 @@ pub record AreRead (table : Table) (spec : IndexSpec) (page : List ℕ) (item : 
   pub are : AreValuesOf (needed_of table spec) values (index_columns spec) picked
   pub typed : AreReadOf table.columns page_size (index_columns spec) picked
 
--- the values of an index's columns, or none where WHERE leaves the item out
-abbrev pub AreReadOrLeft : Table → IndexSpec → List ℕ → ℕ → Option (List KeyVal) → Type 0
-AreReadOrLeft table spec page item None = IsLeftOut table spec page item
-AreReadOrLeft table spec page item (Some picked) = AreRead table spec page item picked
+-- what WHERE says of an item: it keeps it, and these are the values of the index's columns, or it leaves it out
+abbrev pub AreReadOrLeft : Table → IndexSpec → List ℕ → ℕ → Bool → List KeyVal → Type 0
+AreReadOrLeft table spec page item false picked = IsLeftOut table spec page item
+AreReadOrLeft table spec page item true picked = AreRead table spec page item picked
 
 -- a record that an item is in an index, with this pointer, and that a sink takes
 pub record IsReadRecord (table : Table) (spec : IndexSpec) (page : List ℕ) (item : ℕ) (ptr : RowPtr) (record' : Record)
@@ -63,10 +73,10 @@ pub record IsReadRecord (table : Table) (spec : IndexSpec) (page : List ℕ) (it
   pub pointer : record'.ptr ≡ ptr
   pub takeable : IsTakeable spec record'
 
--- an item's record, or none where WHERE leaves the item out
-abbrev pub IsReadOrLeft : Table → IndexSpec → List ℕ → ℕ → RowPtr → Option Record → Type 0
-IsReadOrLeft table spec page item ptr None = IsLeftOut table spec page item
-IsReadOrLeft table spec page item ptr (Some record') = IsReadRecord table spec page item ptr record'
+-- the same of the item's record
+abbrev pub IsReadOrLeft : Table → IndexSpec → List ℕ → ℕ → RowPtr → Bool → Record → Type 0
+IsReadOrLeft table spec page item ptr false record' = IsLeftOut table spec page item
+IsReadOrLeft table spec page item ptr true record' = IsReadRecord table spec page item ptr record'
 
 -- an item has no fault
 abbrev pub IsSoundItem : Table → IndexSpec → List ℕ → ℕ → Type 0

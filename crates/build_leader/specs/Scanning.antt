@@ -12,6 +12,7 @@ use Rattle.heap_row.specs.declared.fault.RowFault.TheVariants as fault
 use Rattle.shared_tape.specs.declared.stored.Record.{Record}
 use Rattle.build_leader.specs.declared.block.BlockError.{BlockError}
 use Rattle.build_leader.specs.declared.block.BlockError.TheVariants as error
+use Rattle.build_leader.specs.declared.row_slot.RowSlot.{RowSlot}
 use Rattle.build_leader.specs.declared.sink.Sink.{Sink}
 use Rattle.build_leader.specs.declared.worker.BlockFault.{BlockFault}
 use Rattle.build_leader.specs.declared.worker.Share.{Share}
@@ -144,10 +145,11 @@ pub record IsOneClaimMore (scan : ScanState) (old new : Share) : Type 0 where
   pub few : length new.seat.view.claims ≤ scan.blocks + scan.seats
 
 -- what a worker begins with
-abbrev pub begun_with : SeatState → Sink → Share
-begun_with seat sink = record {
+abbrev pub begun_with : SeatState → Sink → RowSlot → Share
+begun_with seat sink slot = record {
   seat = seat;
   sink = sink;
+  slot = slot;
   rows = 0;
   fault = None;
 }

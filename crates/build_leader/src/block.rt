@@ -12,11 +12,12 @@ ghost use Rattle.build_leader.specs.Reader.{IsSoundItem};
 ghost use Rattle.build_leader.specs.Scanning.{IsPageError, IsRowError, TakesPage, TakesRow, TakesRows, error_of_chains};
 
 use crate::row_reader::RowReader;
+use crate::row_slot::RowSlot;
 use crate::sink::Sink;
 use heap_page::{PageFault, View, check_page};
 use heap_row::RowFault;
 use hot_chain::{RootFault, Roots, find_roots};
-use pg_bytes::Page;
+use pg_bytes::{Page, RowPtr};
 use std::alloc::Global;
 
 /// Why a block's rows weren't taken: its fault, by the item and the number of the cause, or want of
@@ -36,6 +37,7 @@ pub(crate) fn scan_block(
     page: &Page,
     block: u32,
     sink: &mut Sink,
+    slot: &mut RowSlot,
 ) -> Result<u64, BlockError>
     requires suits { Suits reader.now.spec sink.old }
     ensures refused { IfErr result (IsPageError reader.now.table reader.now.spec page.now) }
@@ -47,7 +49,7 @@ pub(crate) fn scan_block(
 {
     let view = view_of(reader, page)?;
     let roots = roots_of(alloc, reader, &view)?;
-    add_rows(alloc, reader, &view, &roots, block, sink)
+    add_rows(alloc, reader, &view, &roots, block, sink, slot)
 }
 
 // The view of a page that has no fault by itself.
@@ -100,6 +102,7 @@ fn add_rows(
     roots: &Roots,
     block: u32,
     sink: &mut Sink,
+    slot: &mut RowSlot,
 ) -> Result<u64, BlockError>
     requires columns { view.now.columns ≡ length reader.now.table.columns }
     requires size { length view.now.bytes ≡ page_size }
@@ -118,30 +121,26 @@ fn add_rows(
 {
     let mut count = 0;
     for i in 0..roots.rows() {
-        if add_row(
-            alloc,
-            reader,
-            view,
-            roots.item(i),
+        let ptr = RowPtr {
             block,
-            roots.root(i),
-            sink,
-        )? {
+            offset: roots.root(i),
+        };
+        if add_row(alloc, reader, view, roots.item(i), ptr, sink, slot)? {
             count += 1;
         }
     }
     Ok(count)
 }
 
-// Puts a row of a page into a sink, unless WHERE leaves it out, and answers whether it was put.
+// Puts a row of a page, with this pointer, into a sink, unless WHERE leaves it out, and answers whether it was put.
 fn add_row(
     alloc: Global,
     reader: &RowReader,
     view: &View,
     item: u16,
-    block: u32,
-    root: u16,
+    ptr: RowPtr,
     sink: &mut Sink,
+    slot: &mut RowSlot,
 ) -> Result<bool, BlockError>
     requires live { IsLive view.now.bytes item }
     requires columns { view.now.columns ≡ length reader.now.table.columns }
@@ -152,16 +151,16 @@ fn add_row(
     ensures sound { OnOk result
         (IsSoundItem reader.now.table reader.now.spec view.now.bytes item) }
     ensures row { IfOk result (λ put.
-        TakesRow reader.now.table reader.now.spec view.now.bytes block
-        (record { item = item; root = root }) sink.old put sink.new) }
+        TakesRow reader.now.table reader.now.spec view.now.bytes ptr.block
+        (record { item = item; root = ptr.offset }) sink.old put sink.new) }
     ensures same { StaysSuited sink.old sink.new }
 {
-    match reader.record(alloc, view, item, block, root) {
-        Ok(Some(record)) => match sink.put(record) {
+    match reader.read(alloc, view, item, ptr, slot) {
+        Ok(true) => match sink.put(&slot.record) {
             Ok(()) => Ok(true),
             Err(_) => Err(BlockError::Memory),
         },
-        Ok(None) => Ok(false),
+        Ok(false) => Ok(false),
         Err(RowFault::Value { cause }) => Err(BlockError::Fault { item, cause }),
         Err(RowFault::Memory) => Err(BlockError::Memory),
     }

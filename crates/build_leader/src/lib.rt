@@ -20,7 +20,7 @@
 //! `nbtsort.c`, `heapam_index_build_range_scan` of `heapam_handler.c`): the page is checked, its
 //! HOT chains give each live item its root, and the needed columns of the item are read. WHERE is
 //! asked before the size of the tuple or of an entry, so a row that it leaves out can't be too
-//! large. A block with a fault is reported to all workers, and from then on a worker passes over
+//! large. All rows of a worker are read into one slot, which keeps its memory. A block with a fault is reported to all workers, and from then on a worker passes over
 //! each block above a report that it has seen. What it reads afterwards is below its own reports,
 //! so the fault that it found last is its least. As long as it has seen no report, it has the rows
 //! of all blocks of its claims; and the seat into which all others were joined has seen no less
@@ -83,7 +83,9 @@ mod merging;
 mod packing;
 mod plan;
 mod ranges;
+mod refill;
 mod row_reader;
+mod row_slot;
 mod scan;
 mod scanned;
 mod sink;

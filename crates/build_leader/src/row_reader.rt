@@ -6,16 +6,17 @@ ghost use Rattle.hot_chain.specs.Roots.{IsLive};
 ghost use Rattle.opclass.specs.Norm.{IsKeyValue};
 ghost use Rattle.build_leader.specs.Calls.{IsPlan};
 ghost use Rattle.build_leader.specs.IndexRow.{index_columns};
-ghost use Rattle.build_leader.specs.Reader.{AreAt, AreReadOrLeft, IsItemFault, IsReadOrLeft, IsSoundItem};
+ghost use Rattle.build_leader.specs.Reader.{AreAt, AreNeededOrLeft, AreReadOrLeft, IsItemFault, IsReadOrLeft, IsSoundItem};
 
 use crate::columns::kinds_of;
 use crate::plan::Plan;
+use crate::refill::{copy_values, move_last, move_value};
+use crate::row_slot::RowSlot;
 use crate::width::check_width;
 use heap_page::View;
 use heap_row::{RowFault, read_values};
-use opclass::{Columns, IndexSpec, KeyList, KeyVal, Kinds, Table, keeps, needed};
-use pg_bytes::{Items, RowPtr};
-use shared_tape::Record;
+use opclass::{Columns, IndexSpec, KeyList, Kinds, Method, Table, keeps, needed};
+use pg_bytes::RowPtr;
 use std::alloc::{AllocError, Global};
 use std::marker::Model;
 
@@ -70,17 +71,18 @@ impl<'a> RowReader<'a> {
         self.table.columns.len() as u16
     }
 
-    /// The record of a live item of a block, which points to its root, or None where WHERE leaves the
-    /// item out. A value that can't be read is a fault, and so are values that are too large for the
-    /// index, which is asked of a row that WHERE keeps.
-    pub fn record(
+    /// Reads the record of a live item into a slot, with this pointer, and answers whether WHERE
+    /// keeps the item: of one that it leaves out the slot tells nothing. A value that can't be read
+    /// is a fault, and so are values that are too large for the index, which is asked of a row that
+    /// WHERE keeps.
+    pub fn read(
         &self,
         alloc: Global,
         view: &View,
         item: u16,
-        block: u32,
-        root: u16,
-    ) -> Result<Option<Record>, RowFault>
+        ptr: RowPtr,
+        slot: &mut RowSlot,
+    ) -> Result<bool, RowFault>
         requires live { IsLive view.now.bytes item }
         requires columns { view.now.columns ≡ length self.now.table.columns }
         requires size { length view.now.bytes ≡ page_size }
@@ -88,48 +90,73 @@ impl<'a> RowReader<'a> {
             (IsItemFault self.now.table self.now.spec view.now.bytes item) }
         ensures sound { OnOk result
             (IsSoundItem self.now.table self.now.spec view.now.bytes item) }
-        ensures record { IfOk result
-            (IsReadOrLeft self.now.table self.now.spec view.now.bytes item
-            (record { block = block; offset = root })) }
+        ensures record { IfOk result (λ kept.
+            IsReadOrLeft self.now.table self.now.spec view.now.bytes item ptr
+            kept slot.new.record) }
     {
-        let Some(mut keys) = self.values(alloc, view, item)? else {
-            return Ok(None);
-        };
-        check_width(alloc, self.spec, &self.kinds, &keys)?;
-        match split_off(alloc, &mut keys, self.spec.includes.len()) {
-            Ok(extra) => Ok(Some(Record {
-                keys,
-                extra,
-                ptr: RowPtr {
-                    block,
-                    offset: root,
-                },
-            })),
-            Err(_) => Err(RowFault::Memory),
+        let RowSlot { values, record } = slot;
+        // All columns are read as one list, in which each finds the memory of the row before.
+        let extra = record.extra.len();
+        move_last(&mut record.extra, extra, &mut record.keys)?;
+        if !self.read_columns(alloc, view, item, values, &mut record.keys)? {
+            return Ok(false);
         }
+        check_width(alloc, self.spec, &self.kinds, &record.keys)?;
+        let includes = self.spec.includes.len();
+        move_last(&mut record.keys, includes, &mut record.extra)?;
+        record.ptr = ptr;
+        Ok(true)
     }
 
-    // The values of the index's columns, or None where WHERE leaves the item out.
-    fn values(&self, alloc: Global, view: &View, item: u16) -> Result<Option<KeyList>, RowFault>
+    // Fills a list anew with the values of the index's columns, and answers whether WHERE keeps the
+    // item. Where they aren't the needed ones as they stand, they are picked out of these.
+    fn read_columns(
+        &self,
+        alloc: Global,
+        view: &View,
+        item: u16,
+        values: &mut KeyList,
+        picked: &mut KeyList,
+    ) -> Result<bool, RowFault>
         requires live { IsLive view.now.bytes item }
         requires columns { view.now.columns ≡ length self.now.table.columns }
         requires size { length view.now.bytes ≡ page_size }
         ensures refused { IfErr result
             (IsItemFault self.now.table self.now.spec view.now.bytes item) }
-        ensures values { IfOk result
-            (AreReadOrLeft self.now.table self.now.spec view.now.bytes item) }
+        ensures values { IfOk result (λ kept.
+            AreReadOrLeft self.now.table self.now.spec view.now.bytes item kept picked.new) }
     {
-        let values = read_values(alloc, view, item, self.table, &self.needed)?;
-        if !keeps(&self.spec.filter, &self.needed, &values) {
-            return Ok(None);
-        }
         if self.as_needed {
-            return Ok(Some(values));
+            return self.read_needed(alloc, view, item, picked);
         }
-        match picked(alloc, values, &self.places) {
-            Ok(picked) => Ok(Some(picked)),
-            Err(_) => Err(RowFault::Memory),
+        if !self.read_needed(alloc, view, item, values)? {
+            return Ok(false);
         }
+        match self.spec.method {
+            Method::Gin => move_value(values, self.places[0], picked)?,
+            Method::BTree | Method::Brin => copy_values(alloc, values, &self.places, picked)?,
+        }
+        Ok(true)
+    }
+
+    // Fills a list anew with the values of the needed columns, and answers whether WHERE keeps them.
+    fn read_needed(
+        &self,
+        alloc: Global,
+        view: &View,
+        item: u16,
+        values: &mut KeyList,
+    ) -> Result<bool, RowFault>
+        requires live { IsLive view.now.bytes item }
+        requires columns { view.now.columns ≡ length self.now.table.columns }
+        requires size { length view.now.bytes ≡ page_size }
+        ensures refused { IfErr result
+            (IsItemFault self.now.table self.now.spec view.now.bytes item) }
+        ensures values { IfOk result (λ kept.
+            AreNeededOrLeft self.now.table self.now.spec view.now.bytes item kept values.new) }
+    {
+        read_values(alloc, view, item, self.table, &self.needed, values)?;
+        Ok(keeps(&self.spec.filter, &self.needed, values))
     }
 }
 
@@ -168,88 +195,4 @@ fn place_of(needed: &[u16], column: u16) -> usize
         Some(place) => place,
         None => unreachable!(),
     }
-}
-
-// The values at these places: a value alone is moved, several are copied.
-fn picked(alloc: Global, values: KeyList, places: &[usize]) -> Result<KeyList, AllocError>
-    requires inside { All (λ place. place < length values) places.now }
-    requires keys { 2 ≤ length places.now
-        → All (λ place. IfSome (slice_get values place) IsKeyValue) places.now }
-    ensures { IfOk result (AreAt values places.now) }
-{
-    match places {
-        [] => Ok(KeyList::new(alloc)),
-        [place] => moved(alloc, values, *place),
-        _ => copied(alloc, &values, places),
-    }
-}
-
-// The value at a place, alone.
-fn moved(alloc: Global, values: KeyList, place: usize) -> Result<KeyList, AllocError>
-    requires { place < length values }
-    ensures { IfOk result (AreAt values (place ∷ [])) }
-{
-    let mut one = Vec::with_capacity(alloc, 1)?;
-    let Some(value) = cut_off(values, place + 1).pop() else {
-        unreachable!()
-    };
-    one.push_reserved(value);
-    Ok(KeyList::from_vec(one))
-}
-
-// The first so many values.
-fn cut_off(mut values: KeyList, count: usize) -> KeyList
-    requires { count ≤ length values }
-    ensures { result ≡ take count values }
-{
-    'behind: while values.len() > count {
-        values.pop();
-    }
-    values
-}
-
-// The values at these places, each copied.
-fn copied(alloc: Global, values: &KeyList, places: &[usize]) -> Result<KeyList, AllocError>
-    requires inside { All (λ place. place < length values.now) places.now }
-    requires keys { All (λ place. IfSome (slice_get values.now place) IsKeyValue) places.now }
-    ensures { IfOk result (AreAt values.now places.now) }
-{
-    let mut picked = Vec::with_capacity(alloc, places.len())?;
-    for place in places {
-        picked.push_reserved(copy_of(alloc, values.get(*place))?);
-    }
-    Ok(KeyList::from_vec(picked))
-}
-
-// The same value, which is no array.
-fn copy_of(alloc: Global, value: &KeyVal) -> Result<KeyVal, AllocError>
-    requires { IsKeyValue value.now }
-    ensures { IfOk result (λ copy. copy ≡ value.now) }
-{
-    match value {
-        KeyVal::Nil => Ok(KeyVal::Nil),
-        KeyVal::Num(number) => Ok(KeyVal::Num(*number)),
-        KeyVal::Raw(bytes) => {
-            let copy = Vec::from_slice(alloc, bytes.as_slice())?;
-            Ok(KeyVal::Raw(Items::from_vec(copy)))
-        }
-        KeyVal::Items(_) => unreachable!(),
-    }
-}
-
-// Takes so many values off the end of a list, in their order.
-fn split_off(alloc: Global, values: &mut KeyList, count: usize) -> Result<KeyList, AllocError>
-    requires { count ≤ length values.old }
-    ensures whole { IfOk result (λ last. values.old ≡ values.new ++ last) }
-    ensures count { IfOk result (λ last. length last ≡ count) }
-{
-    let mut last = Vec::with_capacity(alloc, count)?;
-    for _ in 0..count {
-        let Some(value) = values.pop() else {
-            unreachable!()
-        };
-        last.push_reserved(value);
-    }
-    last.reverse();
-    Ok(KeyList::from_vec(last))
 }

@@ -47,16 +47,16 @@ impl Sink {
     }
 
     /// Takes a row in. An error means that no memory was left, and then the scan ends.
-    pub fn put(&mut self, row: Record) -> Result<(), AllocError>
-        requires { CanTake self.old row }
+    pub fn put(&mut self, row: &Record) -> Result<(), AllocError>
+        requires { CanTake self.old row.now }
         ensures took { OnOk result ((spec : IndexSpec) → Suits spec self.old
-            → TakesInto spec self.old (row ∷ []) self.new) }
+            → TakesInto spec self.old (row.now ∷ []) self.new) }
         ensures same { StaysSuited self.old self.new }
     {
         match self {
-            Sink::Rows(spool) => put_row(spool, row),
+            Sink::Rows(spool) => spool.put(row),
             Sink::Entries(gather) => gather.put(row.keys.get(0), row.ptr),
-            Sink::Ranges(tally) => tally.add(&row),
+            Sink::Ranges(tally) => tally.add(row),
         }
     }
 
@@ -76,18 +76,5 @@ impl Sink {
             Sink::Entries(gather) => Ok((gather.finish()?, no_ranges)),
             Sink::Ranges(tally) => Ok((Tape::new(alloc), tally.finish())),
         }
-    }
-}
-
-// Puts a row into a spool, or lets it go where memory has run out.
-fn put_row(spool: &mut Spool, row: Record) -> Result<(), AllocError>
-    requires { IsStorable spool.old.order row }
-    ensures took { OnOk result (TakesRecord spool.old row spool.new) }
-    ensures order { spool.new.order ≡ spool.old.order }
-    ensures run_rows { spool.new.run_rows ≡ spool.old.run_rows }
-{
-    match spool.put(row) {
-        Ok(()) => Ok(()),
-        Err(_) => Err(AllocError),
     }
 }

@@ -13,6 +13,7 @@ use crate::gate::Gate;
 use crate::plan::Plan;
 use crate::ranges::RangeParts;
 use crate::row_reader::RowReader;
+use crate::row_slot::RowSlot;
 use crate::scanned::Scanned;
 use crate::sink::Sink;
 use crate::worker::{BlockFault, Share, scan_share};
@@ -99,7 +100,7 @@ fn scan_alone<G: Gate>(
 {
     let reader = RowReader::of(alloc, plan)?;
     let sink = Sink::of(alloc, plan)?;
-    let begun = Share::new(seat, sink);
+    let begun = Share::new(seat, sink, RowSlot::new(alloc));
     let share = scan_share(alloc, &reader, heap, scan, begun, gate)?;
     Team::of(alloc, share)
 }
@@ -114,6 +115,7 @@ impl Team {
             sink,
             rows,
             fault,
+            ..
         } = share;
         let mut tapes = Vec::with_capacity(alloc, 1)?;
         let mut ranges = Vec::with_capacity(alloc, 1)?;

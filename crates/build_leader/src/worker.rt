@@ -10,6 +10,7 @@ ghost use Rattle.build_leader.specs.Scanning.{IsBetweenClaims, IsOneClaimMore, I
 use crate::block::{BlockError, scan_block};
 use crate::gate::Gate;
 use crate::row_reader::RowReader;
+use crate::row_slot::RowSlot;
 use crate::sink::Sink;
 use block_claim::{Scan, ScanSeat};
 use pg_bytes::{PAGE, Page};
@@ -24,23 +25,26 @@ pub(crate) struct BlockFault {
 }
 
 /// A worker's part of a scan: its seat, what the rows of its blocks went into and how many they are,
-/// and the fault of the least block that it reported. All of it changes threads by a move.
+/// the row that it is at, and the fault of the least block that it reported. All of it changes
+/// threads by a move.
 #[derive(Drop)]
 pub(crate) struct Share {
     pub seat: ScanSeat,
     pub sink: Sink,
+    pub slot: RowSlot,
     pub rows: u64,
     pub fault: Option<BlockFault>,
 }
 
 impl Share {
     /// What a worker begins with.
-    pub fn new(seat: ScanSeat, sink: Sink) -> Share
-        ensures { result ≡ begun_with seat sink }
+    pub fn new(seat: ScanSeat, sink: Sink, slot: RowSlot) -> Share
+        ensures { result ≡ begun_with seat sink slot }
     {
         Share {
             seat,
             sink,
+            slot,
             rows: 0,
             fault: None,
         }
@@ -155,7 +159,15 @@ fn scan_one(
     if u64::from(block) > share.seat.seen() {
         return Ok(());
     }
-    match scan_block(alloc, reader, &page_at(heap, block), block, &mut share.sink) {
+    let page = page_at(heap, block);
+    match scan_block(
+        alloc,
+        reader,
+        &page,
+        block,
+        &mut share.sink,
+        &mut share.slot,
+    ) {
         Ok(rows) => share.rows += rows,
         Err(BlockError::Fault { item, cause }) => {
             scan.report(&mut share.seat, block);

@@ -32,6 +32,11 @@ abbrev pub Gives : {X Y : Type 0} → (X → Y) → Result X ReadFault → Resul
 Gives view (Ok value) reading = reading ≡ Ok (view value)
 Gives view (Err fault) reading = Fails fault reading
 
+-- the same of a call that leaves what it read in a place that it was given
+abbrev pub Fills : {X Y : Type 0} → Y → Result X ReadFault → Result Y RowCause → Type 0
+Fills value (Ok done) reading = reading ≡ Ok value
+Fills value (Err fault) reading = Fails fault reading
+
 -- so many bytes are as wide as a number of this form is
 abbrev pub IsWidthOf : Form → ℕ → Type 0
 IsWidthOf Truth size = size ≡ 1
@@ -49,6 +54,11 @@ abbrev pub AreAhead : List Column → ℕ → List ℕ → Type 0
 AreAhead columns before [] = ⊤
 AreAhead columns before (number ∷ numbers) =
     (before < number) × (number ≤ length columns) × AreAhead columns number numbers
+
+-- the last of these numbers, or the one before them where there is none
+abbrev pub last_of : ℕ → List ℕ → ℕ
+last_of before [] = before
+last_of before (number ∷ numbers) = last_of number numbers
 
 -- an attribute is stored in the tuple as its column's type says
 abbrev pub IsStoredIn : HeapTuple → Column → Option Attribute → Type 0

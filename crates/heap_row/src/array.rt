@@ -230,7 +230,7 @@ fn element_at(
     let Some(stored) = plain_at(facts.width, bytes) else {
         return Ok(None);
     };
-    match scalar_of(alloc, facts.form, stored.content(bytes))? {
+    match scalar_of(Vec::new(alloc), facts.form, stored.content(bytes))? {
         Some(value) => Ok(Some((value, start + stored.total))),
         None => Ok(None),
     }

@@ -59,6 +59,16 @@ impl From<ReadFault> for RowFault {
     }
 }
 
+impl From<AllocError> for RowFault {
+    ghost use Rattle.heap_row.specs.declared.fault.RowFault.TheVariants.{Memory};
+
+    ghost from_gives = { λ _ fault. fault ≡ Memory };
+
+    fn from(_: AllocError) -> RowFault {
+        RowFault::Memory
+    }
+}
+
 // The same, with the cause itself.
 #[derive(Clone, Copy, Debug, PartialEq, Eq)]
 pub enum ReadFault {

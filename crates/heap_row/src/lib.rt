@@ -7,9 +7,10 @@
 //! before it, and each of them has to be walked, whether it is needed or not. The definition is that
 //! fold (`end_of`), and asks it anew for each column.
 //!
-//! How it is done: one pass with a cursor (`Walk`), up to the last needed column. The invariant is
+//! How it is done: one pass with a cursor (`Walked`), up to the last needed column. The invariant is
 //! that the cursor stands where the data of the columns before it end. Only needed columns are read
-//! and copied; a number takes no memory, a text is copied once.
+//! and copied, into a list that its owner keeps for one row after the other: a number takes no
+//! memory, and a text goes into that of the text which stood at its place.
 //!
 //! The bytes are hostile. A page that was checked has tuples whose headers are sound, and nothing is
 //! known of what stands behind them. So each read is inside the tuple or is a fault: a walked value
@@ -19,8 +20,8 @@
 //!
 //! # What it promises
 //!
-//! - `read_values` gives exactly the values of the needed columns, in their order, by the definition
-//!   of each form of a value.
+//! - `read_values` leaves in its list exactly the values of the needed columns, in their order, by
+//!   the definition of each form of a value, and nothing of what the list had.
 //! - Each value is one that its column's type has: a number in the type's range, bytes, as many as a
 //!   type of a fixed width has, or an array of such elements. None is longer than the page, and no
 //!   element of an array is.

@@ -23,13 +23,15 @@ enum Want {
     Items(&'static [Want]),
 }
 
-// The values of the needed columns of a tuple of a table with columns of these types.
+// Reads the needed columns of a tuple of a table with columns of these types into a list, whatever
+// it has.
 fn read(
     alloc: Global,
     kinds: &[ColType],
     tuple: Tuple,
     needed: &[u16],
-) -> Result<Result<KeyList, RowFault>, Fail> {
+    values: &mut KeyList,
+) -> Result<Result<(), RowFault>, Fail> {
     let page = heap_page(alloc, &[Line::Normal(tuple)])?;
     let page = Page::of(&page).ok_or("the page is cut")?;
     let table = table_of(alloc, kinds)?;
@@ -39,7 +41,7 @@ fn read(
     if usize::from(count) != table.columns.len() || view.lines() == 0 || !view.is_normal(1) {
         return Err("the page has no tuple of the table").map_err(Fail::from);
     }
-    Ok(read_values(alloc, &view, 1, &table, &needed))
+    Ok(read_values(alloc, &view, 1, &table, &needed, values))
 }
 
 fn table_of(alloc: Global, kinds: &[ColType]) -> Result<Table, AllocError> {
@@ -113,10 +115,10 @@ fn is_element(element: &Elem, want: &Want) -> bool {
     }
 }
 
-// Whether an answer is the one that is wanted.
-fn is_answer(got: &Result<KeyList, RowFault>, wanted: Result<&[Want], u8>) -> bool {
+// Whether an answer, with the values that were left, is the one that is wanted.
+fn is_answer(got: &Result<(), RowFault>, values: &KeyList, wanted: Result<&[Want], u8>) -> bool {
     match (got, wanted) {
-        (Ok(values), Ok(wanted)) => {
+        (Ok(()), Ok(wanted)) => {
             values.len() == wanted.len()
                 && values
                     .as_slice()

@@ -17,13 +17,15 @@ pub struct Walked {
     pub end: usize,
 }
 
-// Walks to the column behind so many others, and past it: its value, and how far that is.
+// Walks to the column behind so many others, and past it: its value, in the memory of one that is
+// no longer needed, and how far that is.
 pub(crate) fn next_value(
     alloc: Global,
     tuple: &HeapTuple,
     columns: &[Column],
     walked: Walked,
     before: usize,
+    spare: Option<KeyVal>,
 ) -> Result<(KeyVal, Walked), ReadFault>
     requires walked { IsWalked tuple.now columns.now walked }
     requires behind { walked.columns ≤ before }
@@ -35,7 +37,7 @@ pub(crate) fn next_value(
     let place = end_of(tuple, columns, walked, before)?;
     let column = &columns[before];
     let attribute = attribute_behind(tuple, column, before, place)?;
-    let value = value_at(alloc, tuple, column, attribute)?;
+    let value = value_at(alloc, tuple, column, attribute, spare)?;
     let walked = Walked {
         columns: before + 1,
         end: end_behind(place, attribute),
@@ -97,13 +99,14 @@ fn end_behind(place: usize, attribute: Option<Attribute>) -> usize
     }
 }
 
-// The value of an attribute.
+// The value of an attribute, in the memory of one that is no longer needed.
 #[tactic(auto, unfolding(crate::specs::Attribute::value_at))]
 fn value_at(
     alloc: Global,
     tuple: &HeapTuple,
     column: &Column,
     attribute: Option<Attribute>,
+    spare: Option<KeyVal>,
 ) -> Result<KeyVal, ReadFault>
     requires { IsStoredIn tuple.now column.now attribute }
     ensures { Gives (λ value. value) result (value_at tuple.now (Some column.now) attribute) }
@@ -112,5 +115,5 @@ fn value_at(
         return Ok(KeyVal::Nil);
     };
     let bytes = from_place(tuple.body(), attribute.start);
-    datum_of(alloc, column.kind, &attribute.stored, bytes)
+    datum_of(alloc, column.kind, &attribute.stored, bytes, spare)
 }

@@ -5,10 +5,11 @@
 //! sorted run to a tape and begins again. There the bound is `work_mem`; here it is a number of
 //! rows, so that which rows a run has doesn't depend on how much memory a row takes.
 //!
-//! How it is done: one run is open, and each row's bytes are written into it at once. The row that
-//! makes it full has its place, and the full run a place among the others, before the run is sorted
-//! and put behind them. So each step that may find no memory comes before the one that can't be
-//! taken back. The open run is then empty and keeps its memory for the next rows.
+//! How it is done: one run is open, and each row's bytes are written into it at once, so that who
+//! puts rows keeps one record and fills it anew for each. The row that makes it full has its place,
+//! and the full run a place among the others, before the run is sorted and put behind them. So each
+//! step that may find no memory comes before the one that can't be taken back. The open run is then
+//! empty and keeps its memory for the next rows.
 //!
 //! The invariant: every run but the open one is sorted, in the spool's order, and none is longer
 //! than it may be. The open one is not full.
@@ -23,7 +24,7 @@
 //!
 //! - A spool's tape has the records that were put, as often as they were put, in sorted runs of the
 //!   spool's order and of at most as many rows as it was told.
-//! - A row that finds no memory is handed back, and the spool is as it was.
+//! - Where a row finds no memory, the spool is as it was.
 //! - A gather's tape has one record for each entry of each row that was put, in sorted runs of the
 //!   order of entries and of at most as many records as it was told.
 //! - A gather that found no memory answers so ever after.

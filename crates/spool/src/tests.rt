@@ -37,17 +37,11 @@ fn order_of_one(alloc: Global) -> Result<SortSpec, AllocError>
     Ok(Items::from_vec(vec![in alloc; ASCENDING]?))
 }
 
-fn put_all(
-    rt: &impl Abort,
-    alloc: Global,
-    spool: &mut Spool,
-    rows: &[u16],
-) -> Result<(), AllocError>
+fn put_all(alloc: Global, spool: &mut Spool, rows: &[u16]) -> Result<(), AllocError>
     requires { length spool.old.order ≡ 1 }
 {
     for offset in rows {
-        let row = record(alloc, *offset)?;
-        assert!(rt; spool.put(row).is_ok());
+        spool.put(&record(alloc, *offset)?)?;
     }
     Ok(())
 }
@@ -63,7 +57,7 @@ fn assert_spooled(
     requires { 1 ≤ run_rows }
 {
     let mut spool = Spool::new(alloc, run_rows, order_of_one(alloc)?);
-    put_all(rt, alloc, &mut spool, rows)?;
+    put_all(alloc, &mut spool, rows)?;
     let mut tape = spool.finish()?;
     for offsets in wanted {
         let mut run = tape.take_run().ok_or("too few runs")?;

@@ -1,6 +1,7 @@
 use crate::tests::Want::{self, Null, Num, Raw};
 use crate::tests::{is_answer, read};
 use opclass::ColType::{self, Int4Array, Int8Array, TextArray};
+use opclass::KeyList;
 use std::alloc::{AllocError, Global};
 use std::process::Abort;
 use std::test::Fail;
@@ -301,17 +302,24 @@ fn value_of(alloc: Global, content: &[u8], short: bool) -> Result<Vec<u8>, Alloc
 #[test]
 fn reads_arrays_or_tells_cause_11(rt: HostRuntime) -> Result<(), Fail> {
     let alloc = rt.alloc();
+    let mut values = KeyList::new(alloc);
     for case in ARRAYS {
         let content = array_of(alloc, &case)?;
         for short in [true, false] {
             let value = value_of(alloc, &content, short)?;
-            let got = read(alloc, &[case.kind], Tuple::row(&value), &[1])?;
+            let got = read(alloc, &[case.kind], Tuple::row(&value), &[1], &mut values)?;
             let is_wanted = match (&got, case.wanted) {
-                (Ok(_), Some(elements)) => is_answer(&got, Ok(&[Want::Items(elements)])),
-                (Err(_), None) => is_answer(&got, Err(11)),
+                (Ok(()), Some(elements)) => {
+                    is_answer(&got, &values, Ok(&[Want::Items(elements)]))
+                }
+                (Err(_), None) => is_answer(&got, &values, Err(11)),
                 _ => false,
             };
-            assert!(rt; is_wanted, "{}, short {short}: {got:?}", case.name);
+            assert!(rt;
+                is_wanted,
+                "{}, short {short}: {got:?} {values:?}",
+                case.name
+            );
         }
     }
     Ok(())

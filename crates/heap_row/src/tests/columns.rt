@@ -5,6 +5,7 @@ use opclass::ColType::{
     Interval, Json, Jsonb, Name, Numeric, Oid, Text, TextArray, Time, Timestamp, Timestamptz, Uuid,
     Varchar,
 };
+use opclass::KeyList;
 use std::process::Abort;
 use std::test::Fail;
 use test_pages::Tuple;
@@ -124,8 +125,12 @@ fn reads_each_type_at_its_place_and_as_null(rt: HostRuntime) -> Result<(), Fail>
         infomask2: 24,
         ..Tuple::row(&EACH_VALUE)
     };
-    let got = read(rt.alloc(), &EACH_TYPE, whole, &EACH_NUMBER)?;
-    assert!(rt; is_answer(&got, Ok(&WANTED_OF_EACH)), "{got:?}");
+    let mut values = KeyList::new(rt.alloc());
+    let got = read(rt.alloc(), &EACH_TYPE, whole, &EACH_NUMBER, &mut values)?;
+    assert!(rt;
+        is_answer(&got, &values, Ok(&WANTED_OF_EACH)),
+        "{got:?} {values:?}"
+    );
     let nulls = Tuple {
         infomask2: 24,
         infomask: 0x0901,
@@ -133,8 +138,11 @@ fn reads_each_type_at_its_place_and_as_null(rt: HostRuntime) -> Result<(), Fail>
         bitmap: &[0, 0, 0],
         ..Tuple::row(&[])
     };
-    let got = read(rt.alloc(), &EACH_TYPE, nulls, &EACH_NUMBER)?;
-    assert!(rt; is_answer(&got, Ok(&[Null; 24])), "{got:?}");
+    let got = read(rt.alloc(), &EACH_TYPE, nulls, &EACH_NUMBER, &mut values)?;
+    assert!(rt;
+        is_answer(&got, &values, Ok(&[Null; 24])),
+        "{got:?} {values:?}"
+    );
     Ok(())
 }
 
@@ -148,11 +156,17 @@ fn columns_that_are_null_take_no_bytes(rt: HostRuntime) -> Result<(), Fail> {
         bitmap: &[0b101],
         ..Tuple::row(&[1, 0, 0, 0, 3, 0, 0, 0])
     };
-    let got = read(alloc, &[Int4, Int4, Int4], middle, &[1, 2, 3])?;
-    assert!(rt; is_answer(&got, Ok(&[Num(1), Null, Num(3)])), "{got:?}");
+    let mut values = KeyList::new(alloc);
+    let got = read(alloc, &[Int4, Int4, Int4], middle, &[1, 2, 3], &mut values)?;
+    let wanted = Ok(&[Num(1), Null, Num(3)][..]);
+    assert!(rt; is_answer(&got, &values, wanted), "{got:?} {values:?}");
     // the table got a column since, and the tuple has no bitmap
-    let got = read(alloc, &[Int4, Int4], Tuple::row(&[1, 0, 0, 0]), &[1, 2])?;
-    assert!(rt; is_answer(&got, Ok(&[Num(1), Null])), "{got:?}");
+    let short = Tuple::row(&[1, 0, 0, 0]);
+    let got = read(alloc, &[Int4, Int4], short, &[1, 2], &mut values)?;
+    assert!(rt;
+        is_answer(&got, &values, Ok(&[Num(1), Null])),
+        "{got:?} {values:?}"
+    );
     // of 1,600 columns the first and the last aren't null
     let mut bitmap = [0u8; 200];
     bitmap[0] = 0x01;
@@ -164,10 +178,8 @@ fn columns_that_are_null_take_no_bytes(rt: HostRuntime) -> Result<(), Fail> {
         bitmap: &bitmap,
         ..Tuple::row(&[0, 1])
     };
-    let got = read(alloc, &[Bool; 1600], wide, &[1, 2, 1599, 1600])?;
-    assert!(rt;
-        is_answer(&got, Ok(&[Num(0), Null, Null, Num(1)])),
-        "{got:?}"
-    );
+    let got = read(alloc, &[Bool; 1600], wide, &[1, 2, 1599, 1600], &mut values)?;
+    let wanted = Ok(&[Num(0), Null, Null, Num(1)][..]);
+    assert!(rt; is_answer(&got, &values, wanted), "{got:?} {values:?}");
     Ok(())
 }

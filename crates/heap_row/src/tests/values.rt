@@ -1,6 +1,7 @@
 use crate::tests::Want::{self, Num, Raw};
 use crate::tests::{is_answer, read};
 use opclass::ColType::{self, Bool, Int2, Int4, Int4Array, Int8, Int8Array, Text};
+use opclass::KeyList;
 use std::process::Abort;
 use std::test::Fail;
 use test_pages::Tuple;
@@ -303,15 +304,21 @@ const TWO_ARRAYS: [u8; 40] = [
     0, 0, 0, 0, 0, 0, 0, 20, 0, 0, 0,
 ];
 
+// All cases are read into one list, so that each finds there what the one before it left.
 #[test]
 fn reads_values_or_tells_the_cause(rt: HostRuntime) -> Result<(), Fail> {
+    let mut values = KeyList::new(rt.alloc());
     for case in CASES {
         let tuple = Tuple {
             infomask2: case.kinds.len().min(1600) as u16,
             ..Tuple::row(case.values)
         };
-        let got = read(rt.alloc(), case.kinds, tuple, case.needed)?;
-        assert!(rt; is_answer(&got, case.wanted), "{}: {got:?}", case.name);
+        let got = read(rt.alloc(), case.kinds, tuple, case.needed, &mut values)?;
+        assert!(rt;
+            is_answer(&got, &values, case.wanted),
+            "{}: {got:?} {values:?}",
+            case.name
+        );
     }
     Ok(())
 }

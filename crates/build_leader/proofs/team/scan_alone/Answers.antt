@@ -16,7 +16,7 @@ scan_share-requires-clause-begun g c =
     let seat = c.args.seat in
     subst (λ (r : ReaderView). IsBetweenClaims r heap scan c.new-begun.result) (sym c.in_ok-reader.ensures)
     (subst (IsBetweenClaims (reader_of plan) heap scan) (sym c.new-begun.ensures)
-    (begun (reader_of plan) heap scan seat.worker seat c.in_ok-sink.sink c.requires.fresh
+    (begun (reader_of plan) heap scan seat.worker seat c.in_ok-sink.sink _ c.requires.fresh
     (plan.run_rows, c.in_ok-sink.ensures.sink) c.in_ok-sink.ensures.none))
 
 pub returns-clause-team : goal.returns-clause-team

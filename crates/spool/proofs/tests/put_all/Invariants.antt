@@ -2,4 +2,4 @@ use Rattle.std.proofs.Common.{◌≡◌, length}
 use Rattle.spool.proofs.tests.put_all.Given as goal
 
 abbrev pub invariant-loop-offset : goal.invariant-loop-offset
-invariant-loop-offset g l = length l.spool.order ≡ 1
+invariant-loop-offset l = length l.spool.order ≡ 1
