@@ -26,3 +26,5 @@ pub mod InOrder
 pub mod Shares
 -- records of one short key, as tests have them
 pub mod Rows
+-- cuts, which are normalised keys; crates above cite `equal_together` and `keys_apart`
+pub mod KeyCuts

@@ -1,21 +1,65 @@
 -- Samples one after the other, and cuts at equal shares of them.
-use Rattle.std.proofs.Common.{◌≡◌, ℕ, zero, suc, ◌+◌, ◌-◌, ◌*◌, ◌/◌, ◌<◌, ◌≤◌, ◌^◌, false, Option, Some, None, List, [], ◌∷◌, ◌++◌, length, refl, sym, ap, ◌∙◌, arith, slice_get, append_assoc, inl, inr}
+use Rattle.std.proofs.Common.{◌≡◌, ℕ, zero, suc, ◌+◌, ◌-◌, ◌*◌, ◌/◌, ◌<◌, ◌≤◌, ◌^◌, false, Option, Some, None, List, [], ◌∷◌, ◌++◌, length, length-append, take, refl, sym, ap, subst, ◌∙◌, arith, slice_get, slice_index_or, append_assoc, inl, inr}
 use Rattle.std.specs.Borrow.{Bor}
 use Rattle.std.specs.Ordering.{is_lt}
 use Rattle.std.specs.List.{filter_map, range_with_len}
 use Rattle.std.specs.List.Sorted.{IsSorted}
 use Rattle.std.proofs.Math.Nat.{mul-le-mul_right, mul-le-mul_left, div-mul-le_self}
 use Rattle.std.proofs.lemmas.Nat.{div_below, le-div}
-use Rattle.std.proofs.lemmas.Option.{slice_get_past, get_or_from_slice_get}
+use Rattle.std.proofs.lemmas.Option.{slice_get_past, slice_get-get_or, get_or_from_slice_get}
+use Rattle.std.proofs.Math.Seq.{take-append_seam}
 use Rattle.std.proofs.lemmas.List.{map-append, get_or-map, length-map}
 use Rattle.std.proofs.lemmas.List.Elements.{filter_map-append}
 use Rattle.std.proofs.lemmas.List.Sorted.{sorted_far}
 use Rattle.std.proofs.lemmas.Bool.{cases_order}
 use Rattle.opclass.specs.Order.{bytes_cmp}
-use Rattle.run_merge.specs.Cutting.{cut_at, AreAtShares}
+use Rattle.opclass.specs.declared.spec.SortPart.{SortPart}
+use Rattle.opclass.specs.Norm.{norm_of}
+use Rattle.shared_tape.specs.declared.stored.Record.{Record}
+use Rattle.shared_tape.specs.Stored.{order_bytes, pointer_bytes}
+use Rattle.shared_tape.specs.Runs.{RunView, order_list}
+use Rattle.run_merge.specs.Cutting.{cut_at, key_list, AreAtShares}
+use Rattle.run_merge.proofs.Heaping.{no_row}
 use Rattle.run_merge.specs.Pass.{bytes_of}
 use Rattle.run_merge.proofs.Moves.{append-nil}
 use Rattle.run_merge.proofs.Finding.{bytes_weak}
+
+length-pointer_bytes : (row : Record) → length (pointer_bytes row.ptr) ≡ 6
+length-pointer_bytes row = refl
+
+-- order bytes have the row pointer last, and the normalised key before it
+key_split : (order : List SortPart) (row : Record) → (6 ≤ length (order_bytes order row))
+    × (take (length (order_bytes order row) - 6) (order_bytes order row) ≡ norm_of order row.keys)
+unfolding order_bytes
+key_split order row =
+    let key = norm_of order row.keys in
+    let long : length (key ++ pointer_bytes row.ptr) ≡ length key + 6 = length-append key (pointer_bytes row.ptr)
+    ∙ ap (λ (n : ℕ). length key + n) (length-pointer_bytes row) in
+    let short : length (key ++ pointer_bytes row.ptr) - 6 ≡ length key = omega (arith, long) in (
+      omega (arith, long),
+      ap (λ (n : ℕ). take n (key ++ pointer_bytes row.ptr)) short
+          ∙ take-append_seam key (pointer_bytes row.ptr),
+    )
+
+pub length-key_list : (run : RunView) → length (key_list run) ≡ length run.records
+length-key_list run = length-map run.records (λ row. norm_of run.order row.keys)
+
+-- the normalised key at a place of a run, as it was cut off
+pub key_found : (run : RunView) (at : ℕ) (bytes : List ℕ) → at < length run.records
+    → slice_get (order_list run) at ≡ Some bytes
+    → (6 ≤ length bytes) × (slice_get (key_list run) at ≡ Some (take (length bytes - 6) bytes))
+key_found run at bytes h e =
+    let row = slice_index_or run.records at no_row in
+    let is : order_bytes run.order row ≡ bytes =
+    sym (get_or-map (order_bytes run.order) run.records at no_row bytes h) ∙ get_or_from_slice_get (order_list run) at bytes
+    bytes e in
+    let split = key_split run.order row in
+    let key : slice_index_or (key_list run) at [] ≡ norm_of run.order row.keys =
+    get_or-map (λ (r : Record). norm_of run.order r.keys) run.records at no_row [] h in (
+      subst (λ l. 6 ≤ length l) is split.0,
+      slice_get-get_or (key_list run) at [] (omega (arith, h, length-key_list run))
+          ∙ ap Some (key ∙ sym split.1 ∙ ap (λ (l : List ℕ). take (length l - 6) l) is),
+    )
 
 range_push : (a n : ℕ) → range_with_len a (n + 1) ≡ range_with_len a n ++ (a + n) ∷ []
 range_push a zero = let e : a ≡ a + 0 = omega arith in ap (λ (k : ℕ). k ∷ []) e

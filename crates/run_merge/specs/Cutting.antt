@@ -1,23 +1,29 @@
 -- Cuts of the whole order into parts that are merged apart from each other. Own rules: tuplesort.c merges on one
 -- process.
-use Rattle.std.specs.Prelude.{◌≡◌, ℕ, zero, suc, ◌+◌, ◌*◌, ◌/◌, ◌<◌, Bool, true, ◌&&◌, not, Option, Some, None, List, [], length, slice_get, slice_index_or, filter}
+use Rattle.std.specs.Prelude.{◌≡◌, ℕ, zero, suc, ◌+◌, ◌*◌, ◌/◌, ◌<◌, Bool, true, ◌&&◌, not, Option, Some, None, List, [], length, map, slice_get, slice_index_or, filter}
 use Rattle.std.specs.List.{flat_map, filter_map, range_with_len}
 use Rattle.std.specs.List.Sorted.{IsSorted, IsPermutation}
 use Rattle.std.specs.Ordering.{is_lt}
 use Rattle.opclass.specs.declared.spec.SortPart.{SortPart}
 use Rattle.opclass.specs.Order.{bytes_cmp}
+use Rattle.opclass.specs.Norm.{norm_of}
 use Rattle.shared_tape.specs.declared.stored.Record.{Record}
 use Rattle.shared_tape.specs.Stored.{order_bytes}
-use Rattle.shared_tape.specs.Runs.{RunView, order_list}
+use Rattle.shared_tape.specs.Runs.{RunView}
 
 -- of how many records of a run one is a sample
 abbrev pub STRIDE : ℕ
 STRIDE = 64
 
--- the samples of a run: of its order bytes, those at the places 0, 64, 128 and so on
+-- the normalised keys of a run's records
+abbrev pub key_list : RunView → List (List ℕ)
+key_list run = map (λ row. norm_of run.order row.keys) run.records
+
+-- The samples of a run: of its normalised keys, those at the places 0, 64, 128 and so on. Without the row pointers, so
+-- that a cut parts no records with equal keys.
 abbrev pub samples_of : RunView → List (List ℕ)
 samples_of run =
-    filter_map (λ number. slice_get (order_list run) (number * STRIDE)) (range_with_len 0 (length (order_list run)))
+    filter_map (λ number. slice_get (key_list run) (number * STRIDE)) (range_with_len 0 (length (key_list run)))
 
 -- the samples of all runs
 abbrev pub all_samples : List (List RunView) → List (List ℕ)
@@ -63,6 +69,10 @@ cut_behind cuts part = slice_get cuts part
 abbrev pub is_between : List SortPart → Option (List ℕ) → Option (List ℕ) → Record → Bool
 is_between order low high row = is_from low (order_bytes order row) && is_below high (order_bytes order row)
 
--- the records of a part, counted from 0
+-- a record of a part, counted from 0
+abbrev pub is_in_part : List SortPart → List (List ℕ) → ℕ → Record → Bool
+is_in_part order cuts part row = is_between order (cut_before cuts part) (cut_behind cuts part) row
+
+-- the records of a part
 abbrev pub part_of : List SortPart → List (List ℕ) → ℕ → List Record → List Record
-part_of order cuts part records = filter (is_between order (cut_before cuts part) (cut_behind cuts part)) records
+part_of order cuts part records = filter (is_in_part order cuts part) records

@@ -1,14 +1,16 @@
 -- What holds of records in their order and of their parts, whatever the records are.
-use Rattle.std.specs.Prelude.{◌≡◌, ℕ, ◌+◌, ◌≤◌, List, length, All, slice_index_or, [], IsTrue}
+use Rattle.std.specs.Prelude.{◌≡◌, ◌≢◌, ℕ, ◌+◌, ◌≤◌, List, length, All, slice_index_or, [], IsTrue}
 use Rattle.std.specs.List.{flat_map}
 use Rattle.std.specs.List.Sorted.{IsSorted}
+use Rattle.std.specs.declared.cmp.Ordering.TheVariants.{Equal}
 use Rattle.opclass.specs.declared.spec.SortPart.{SortPart}
-use Rattle.opclass.specs.Order.{bytes_cmp}
+use Rattle.opclass.specs.Order.{bytes_cmp, key_cmp}
 use Rattle.shared_tape.specs.declared.stored.Record.{Record}
 use Rattle.shared_tape.specs.Stored.{IsStorable}
-use Rattle.run_merge.specs.Sorted.{IsSortedRecords, AreApart, AscendStrictly}
+use Rattle.shared_tape.specs.Runs.{RunView}
+use Rattle.run_merge.specs.Sorted.{IsSortedRecords, AreApart, AscendStrictly, AllHaveOrder, all_records}
 use Rattle.run_merge.specs.Merging.{Merging, GivesAll}
-use Rattle.run_merge.specs.Cutting.{part_of}
+use Rattle.run_merge.specs.Cutting.{AreCuts, is_in_part, part_of}
 
 -- records of which no two have equal keys and row pointers ascend strictly in their order
 abbrev pub SortedRecordsAscendStrictly : Type 0
@@ -40,3 +42,19 @@ PartsAreTheWhole =
     → ((part : ℕ) → part ≤ length cuts
     → IsSortedRecords order (part_of order cuts part records) (slice_index_or parts part []))
     → IsSortedRecords order records (flat_map (λ part. part) parts)
+
+-- records with equal keys stand in the same parts between the cuts of tapes
+abbrev pub EqualKeysStayTogether : Type 0
+EqualKeysStayTogether =
+    (order : List SortPart) (tapes : List (List RunView)) (parts : ℕ) (cuts : List (List ℕ)) → AllHaveOrder order tapes
+    → All (IsStorable order) (all_records tapes) → AreCuts tapes parts cuts
+    → (a b : Record) → IsStorable order a → IsStorable order b → key_cmp order a.keys b.keys ≡ Equal
+    → (part : ℕ) → is_in_part order cuts part a ≡ is_in_part order cuts part b
+
+-- and no two of these parts have records with equal keys
+abbrev pub PartsShareNoKeys : Type 0
+PartsShareNoKeys =
+    (order : List SortPart) (tapes : List (List RunView)) (parts : ℕ) (cuts : List (List ℕ)) → AllHaveOrder order tapes
+    → All (IsStorable order) (all_records tapes) → AreCuts tapes parts cuts
+    → (a b : Record) → IsStorable order a → IsStorable order b → (i j : ℕ) → i ≤ length cuts → j ≤ length cuts → i ≢ j
+    → IsTrue (is_in_part order cuts i a) → IsTrue (is_in_part order cuts j b) → key_cmp order a.keys b.keys ≢ Equal

@@ -1,11 +1,13 @@
 -- What the passes over runs keep.
-use Rattle.std.specs.Prelude.{◌≡◌, ℕ, ◌<◌, ◌≤◌, ◌++◌, true, false, Option, List, All, filter, take, drop, length, slice_index_or, map}
+use Rattle.std.specs.Prelude.{◌≡◌, ℕ, ◌<◌, ◌≤◌, ◌++◌, Bool, true, false, Option, List, All, filter, take, drop, length, slice_index_or, map}
 use Rattle.std.specs.Borrow.{Bor}
 use Rattle.std.specs.List.{flat_map}
 use Rattle.shared_tape.specs.declared.stored.Record.{Record}
 use Rattle.shared_tape.specs.Runs.{RunView, records_of, IsAscending, order_list}
-use Rattle.run_merge.specs.Heads.{no_run}
-use Rattle.run_merge.specs.Merging.{IsFirstOf}
+use Rattle.run_merge.specs.declared.head.Head.{Head}
+use Rattle.run_merge.specs.Heads.{no_run, left_of}
+use Rattle.run_merge.specs.Merging.{Merging, IsFirstOf, GivesInto}
+use Rattle.run_merge.specs.Sorted.{AllHaveOrder}
 use Rattle.std.specs.List.Sorted.{IsPermutation}
 use Rattle.opclass.specs.declared.spec.SortPart.{SortPart}
 use Rattle.run_merge.specs.Cutting.{is_from, is_below, is_between}
@@ -54,3 +56,13 @@ pub record AreMerged (order : List SortPart) (whole merged left : List Record) :
 -- the bytes of several slices
 abbrev pub bytes_of : List (Bor (List ℕ)) → List (List ℕ)
 bytes_of slices = map (λ slice. slice.now) slices
+
+-- the merge of what heads have left
+abbrev pub merging_by : List SortPart → List (List RunView) → List Head → Merging
+merging_by order tapes heads = record { order = order; left = left_of tapes heads; in_order = false }
+
+-- heads give a record, or none, as a merge does, in the order that all runs have
+abbrev pub HeadsGive : List (List RunView) → List Head → List Head → Bool → Record → Type 0
+HeadsGive tapes old new given row =
+    (order : List SortPart) → AllHaveOrder order tapes
+    → GivesInto (merging_by order tapes old) (merging_by order tapes new) given row

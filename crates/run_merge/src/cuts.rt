@@ -1,4 +1,4 @@
-ghost use Rattle.std.specs.Prelude.{◌≡◌, ◌<◌, ◌≤◌, ◌++◌, IfOk, OnOk, Some, length, map, slice_get};
+ghost use Rattle.std.specs.Prelude.{◌≡◌, ◌<◌, ◌≤◌, ◌++◌, [], IfOk, OnOk, Some, length, map, slice_get};
 ghost use Rattle.std.specs.List.Sorted.{IsSorted};
 ghost use Rattle.std.specs.Option.{option_copied};
 ghost use Rattle.opclass.specs.Order.{bytes_cmp};
@@ -6,9 +6,11 @@ ghost use Rattle.run_merge.specs.Cutting.{cut_before, cut_behind};
 
 use crate::between::Between;
 use pg_bytes::{Bytes, Items};
+use std::alloc::Global;
 use std::marker::Model;
 
-/// Where the order is cut into parts, seen as the ascending list of the cuts, each as order bytes.
+/// Where the order is cut into parts, seen as the ascending list of the cuts, each as a normalised
+/// key.
 #[derive(Debug, Drop)]
 pub struct Cuts {
     cuts: Items<Bytes>,
@@ -30,6 +32,13 @@ impl Model for Cuts {
 }
 
 impl Cuts {
+    /// No cuts, which take no memory: the one part is the whole.
+    pub fn none(alloc: Global) -> Cuts
+        ensures { result ≡ [] }
+    {
+        Cuts::of(Items::new(alloc))
+    }
+
     /// The cuts of this list.
     pub(crate) fn of(cuts: Items<Bytes>) -> Cuts
         requires ascending { IsSorted bytes_cmp cuts }
@@ -47,7 +56,7 @@ impl Cuts {
         self.cuts.len() as u32
     }
 
-    /// The order bytes of a cut, counted from 0.
+    /// The normalised key of a cut, counted from 0.
     pub fn get(&self, at: u32) -> &[u8]
         requires { at < length self.now }
         ensures { slice_get self.now at ≡ Some result.now }

@@ -1,8 +1,8 @@
-ghost use Rattle.std.specs.Prelude.{◌≡◌, ◌+◌, ◌<◌, ◌≤◌, ◌++◌, IfOk, OnOk, length};
+ghost use Rattle.std.specs.Prelude.{◌≡◌, ◌+◌, ◌<◌, ◌≤◌, ◌++◌, IfOk, OnOk, Some, length, slice_get};
 ghost use Rattle.std.specs.List.{flat_map};
 ghost use Rattle.std.specs.List.Sorted.{IsSorted};
 ghost use Rattle.opclass.specs.Order.{bytes_cmp};
-ghost use Rattle.run_merge.specs.Cutting.{AreAtShares, AreCuts, all_samples, cut_at, samples_of};
+ghost use Rattle.run_merge.specs.Cutting.{AreAtShares, AreCuts, all_samples, cut_at, key_list, samples_of};
 ghost use Rattle.run_merge.specs.Pass.{bytes_of};
 ghost use Rattle.run_merge.specs.Sorted.{AllHaveOrder};
 
@@ -15,9 +15,13 @@ use std::alloc::{AllocError, Global};
 /// Of how many records of a run one is a sample.
 const STRIDE: usize = 64;
 
-/// Cuts the order into so many parts, at equal shares of the samples: of every run the records at
-/// the places 0, 64, 128 and so on. Without samples every cut is the empty list. How many records a
-/// part then has isn't promised. An error means that no memory was left.
+/// How many order bytes a row pointer has. They stand last.
+const POINTER: usize = 6;
+
+/// Cuts the order into so many parts, at equal shares of the samples: of every run the normalised
+/// keys of the records at the places 0, 64, 128 and so on. A cut has no row pointer, so that no
+/// records with equal keys are parted. Without samples every cut is the empty list. How many
+/// records a part then has isn't promised. An error means that no memory was left.
 pub fn cut_points(
     alloc: Global,
     tapes: &Tapes,
@@ -59,9 +63,18 @@ fn sample_run<'a>(run: &'a Run, samples: &mut Vec<&'a [u8]>) -> Result<(), Alloc
         ≡ bytes_of samples.old.items ++ samples_of run.now) }
 {
     for number in 0..run.len().div_ceil(STRIDE) {
-        samples.push(run.order_at(number * STRIDE))?;
+        samples.push(key_at(run, number * STRIDE))?;
     }
     Ok(())
+}
+
+// The normalised key of the record at a place.
+fn key_at(run: &Run, at: usize) -> &[u8]
+    requires { at < length run.now.records }
+    ensures { slice_get (key_list run.now) at ≡ Some result.now }
+{
+    let order_bytes = run.order_at(at);
+    &order_bytes[..order_bytes.len() - POINTER]
 }
 
 // The cuts at equal shares of samples in order.

@@ -4,12 +4,12 @@ ghost use Rattle.std.specs.List.Sorted.{IsPermutation};
 ghost use Rattle.std.specs.Option.{option_copied};
 ghost use Rattle.run_merge.specs.Cutting.{is_between};
 ghost use Rattle.run_merge.specs.Heads.{AreHeads, IsHead, left_of, run_at};
-ghost use Rattle.run_merge.specs.Pass.{all_between, between_of, records_between};
+ghost use Rattle.run_merge.specs.Pass.{HeadsGive, all_between, between_of, records_between};
 
 use crate::between::{Between, places_in};
 use crate::head::Head;
-use crate::heap::make_heap;
-use shared_tape::Tapes;
+use crate::heap::{make_heap, move_on};
+use shared_tape::{Record, Tapes};
 use std::alloc::{AllocError, Global};
 
 /// The heads of all runs that have records between two cuts, as a heap.
@@ -29,6 +29,27 @@ pub(crate) fn heads_between(
     }
     make_heap(tapes, &mut heads);
     Ok(heads)
+}
+
+/// Fills a record with the first that the heads have left, and moves the heads on. False comes
+/// exactly where they have none left. An error means that no memory was left.
+pub(crate) fn give_first(
+    tapes: &Tapes,
+    heads: &mut Vec<Head>,
+    row: &mut Record,
+) -> Result<bool, AllocError>
+    requires heap { AreHeads tapes.now heads.old.items }
+    ensures heap { AreHeads tapes.now heads.new.items }
+    ensures given { IfOk result (λ given.
+        HeadsGive tapes.now heads.old.items heads.new.items given row.new) }
+    ensures kept { OnErr result (heads.new.items ≡ heads.old.items) }
+{
+    let Some(first) = heads.first() else {
+        return Ok(false);
+    };
+    first.run(tapes).read_into(first.at, row)?;
+    move_on(tapes, heads);
+    Ok(true)
 }
 
 // Adds the heads of a tape's runs.

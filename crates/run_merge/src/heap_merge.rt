@@ -5,8 +5,7 @@ ghost use Rattle.run_merge.specs.Sorted.{AllHaveOrder, all_records};
 
 use crate::between::Between;
 use crate::head::Head;
-use crate::heads::heads_between;
-use crate::heap::move_on;
+use crate::heads::{give_first, heads_between};
 use opclass::SortSpec;
 use shared_tape::{Record, Tapes};
 use std::alloc::{AllocError, Global};
@@ -21,18 +20,14 @@ pub(crate) struct HeapMerge {
 }
 
 impl Model for HeapMerge {
-    ghost use Rattle.std.specs.Prelude.{false};
     ghost use Rattle.run_merge.specs.Merging.{Merging};
     ghost use Rattle.run_merge.specs.Sorted.{AllHaveOrder};
-    ghost use Rattle.run_merge.specs.Heads.{AreHeads, left_of};
+    ghost use Rattle.run_merge.specs.Heads.{AreHeads};
+    ghost use Rattle.run_merge.specs.Pass.{merging_by};
 
     ghost Value = { Merging };
 
-    ghost view = { λ merge. record {
-      order = merge.order;
-      left = left_of merge.tapes merge.heads.items;
-      in_order = false;
-    } };
+    ghost view = { λ merge. merging_by merge.order merge.tapes merge.heads.items };
 
     ghost invariant = { λ merge. record {
       order : AllHaveOrder merge.order merge.tapes;
@@ -65,11 +60,6 @@ impl HeapMerge {
         ensures given { IfOk result (λ given. GivesInto self.old self.new given row.new) }
         ensures kept { OnErr result (self.new ≡ self.old) }
     {
-        let Some(first) = self.heads.first() else {
-            return Ok(false);
-        };
-        first.run(&self.tapes).read_into(first.at, row)?;
-        move_on(&self.tapes, &mut self.heads);
-        Ok(true)
+        give_first(&self.tapes, &mut self.heads, row)
     }
 }

@@ -1,6 +1,6 @@
 //! What holds of records in their order and of their parts, whatever the records are.
 
-ghost use Rattle.run_merge.specs.Laws.{MergesGiveSorted, OrderedAreGivenInPlace, PartsAreTheWhole, SortedRecordsAreOne, SortedRecordsAscendStrictly};
+ghost use Rattle.run_merge.specs.Laws.{EqualKeysStayTogether, MergesGiveSorted, OrderedAreGivenInPlace, PartsAreTheWhole, PartsShareNoKeys, SortedRecordsAreOne, SortedRecordsAscendStrictly};
 
 /// Records of which no two have equal keys and row pointers ascend strictly in their order.
 pub fn sorted_records_ascend_strictly()
@@ -26,4 +26,14 @@ pub fn ordered_are_given_in_place()
 /// each other.
 pub fn parts_are_the_whole()
     ensures { PartsAreTheWhole }
+{}
+
+/// Records with equal keys stand in the same parts between the cuts of tapes.
+pub fn equal_keys_stay_together()
+    ensures { EqualKeysStayTogether }
+{}
+
+/// And no two of these parts have records with equal keys.
+pub fn parts_share_no_keys()
+    ensures { PartsShareNoKeys }
 {}

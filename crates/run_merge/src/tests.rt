@@ -2,7 +2,7 @@ ghost use Rattle.std.specs.Prelude.{◌≡◌, ◌≤◌, ◌∷◌, ◌++◌, [
 ghost use Rattle.shared_tape.specs.Stored.{IsStorable};
 ghost use Rattle.run_merge.specs.Sorted.{AllHaveOrder, HaveOrder};
 
-use crate::{Merged, cut_points, merge, merge_range};
+use crate::{Cuts, Merged, cut_points, merge, merge_part, merge_range};
 use opclass::{KeyList, KeyVal, SortPart, SortSpec};
 use pg_bytes::{Items, RowPtr};
 use shared_tape::{Record, Run, Tape, Tapes};
@@ -137,7 +137,36 @@ fn assert_gives(
     Ok(())
 }
 
-// That the parts of so many, one after the other, are these rows.
+// That the parts between these cuts, one after the other, are these rows, as runs and as they are
+// merged.
+fn assert_between(
+    rt: &impl Abort,
+    alloc: Global,
+    tapes: &Tapes,
+    cuts: &Cuts,
+    order: &SortSpec,
+    wanted: &[Row],
+) -> Result<(), Fail>
+    requires { AllHaveOrder order.now tapes.now }
+{
+    let mut left = wanted.iter();
+    let mut kept = Record::new(alloc);
+    for number in 0..=cuts.len() {
+        let mut run = merge_range(alloc, tapes, cuts, number, order)?;
+        let mut part = merge_part(alloc, tapes, cuts, number, order)?;
+        for _ in 0..run.len() {
+            let record = run.next()?.ok_or("too few")?;
+            assert_eq!(rt; Some(row_of(&record)), left.next().copied());
+            assert!(rt; part.next_into(&mut kept)?);
+            assert_eq!(rt; row_of(&kept), row_of(&record));
+        }
+        assert!(rt; !part.next_into(&mut kept)?);
+    }
+    assert!(rt; left.next().is_none());
+    Ok(())
+}
+
+// That the parts of so many are these rows.
 fn assert_parts(
     rt: &impl Abort,
     alloc: Global,
@@ -152,16 +181,7 @@ fn assert_parts(
 {
     let order = order_of(alloc, part)?;
     let cuts = cut_points(alloc, tapes, parts, &order)?;
-    let mut left = wanted.iter();
-    for number in 0..=cuts.len() {
-        let mut run = merge_range(alloc, tapes, &cuts, number, &order)?;
-        for _ in 0..run.len() {
-            let record = run.next()?.ok_or("too few")?;
-            assert_eq!(rt; Some(row_of(&record)), left.next().copied());
-        }
-    }
-    assert!(rt; left.next().is_none());
-    Ok(())
+    assert_between(rt, alloc, tapes, &cuts, &order, wanted)
 }
 
 // That these tapes merge to these rows, at once and in parts.
@@ -173,11 +193,13 @@ fn assert_merges(
     wanted: &[Row],
 ) -> Result<(), Fail> {
     let list = tapes_of(alloc, part, tapes)?;
+    let order = order_of(alloc, part)?;
+    assert_between(rt, alloc, &list, &Cuts::none(alloc), &order, wanted)?;
     assert_parts(rt, alloc, &list, part, 1, wanted)?;
     assert_parts(rt, alloc, &list, part, 2, wanted)?;
     assert_parts(rt, alloc, &list, part, 31, wanted)?;
     assert_parts(rt, alloc, &list, part, 32, wanted)?;
-    let merged = merge(alloc, list, order_of(alloc, part)?)?;
+    let merged = merge(alloc, list, order)?;
     assert_gives(rt, alloc, merged, wanted)
 }
 
@@ -260,13 +282,12 @@ fn many_runs_merge_in_order(rt: HostRuntime) -> Result<(), Fail> {
     assert_gives(&rt, alloc, merged, &wanted)
 }
 
-// How many records the parts of so many have, and that the cuts are these.
-fn assert_cuts(
+// That the parts of so many have so many records each.
+fn assert_sizes(
     rt: &impl Abort,
     alloc: Global,
     tapes: &Tapes,
     parts: u32,
-    cuts_wanted: &[&[u8]],
     sizes: &[usize],
 ) -> Result<(), Fail>
     requires some { 1 ≤ parts }
@@ -275,11 +296,6 @@ fn assert_cuts(
 {
     let order = order_of(alloc, ASCENDING)?;
     let cuts = cut_points(alloc, tapes, parts, &order)?;
-    let mut cuts_left = cuts_wanted.iter();
-    for number in 0..cuts.len() {
-        assert_eq!(rt; Some(cuts.get(number)), cuts_left.next().copied());
-    }
-    assert!(rt; cuts_left.next().is_none());
     let mut sizes_left = sizes.iter();
     for part in 0..=cuts.len() {
         let run = merge_range(alloc, tapes, &cuts, part, &order)?;
@@ -287,6 +303,28 @@ fn assert_cuts(
     }
     assert!(rt; sizes_left.next().is_none());
     Ok(())
+}
+
+// That the cuts into so many parts are these, and how many records the parts have.
+fn assert_cuts(
+    rt: &impl Abort,
+    alloc: Global,
+    tapes: &Tapes,
+    parts: u32,
+    wanted: &[&[u8]],
+    sizes: &[usize],
+) -> Result<(), Fail>
+    requires some { 1 ≤ parts }
+    requires few { parts ≤ 32 }
+    requires order { AllHaveOrder (ASCENDING ∷ []) tapes.now }
+{
+    let cuts = cut_points(alloc, tapes, parts, &order_of(alloc, ASCENDING)?)?;
+    let mut left = wanted.iter();
+    for number in 0..cuts.len() {
+        assert_eq!(rt; Some(cuts.get(number)), left.next().copied());
+    }
+    assert!(rt; left.next().is_none());
+    assert_sizes(rt, alloc, tapes, parts, sizes)
 }
 
 #[test]
@@ -297,9 +335,9 @@ fn the_order_is_cut_at_samples(rt: HostRuntime) -> Result<(), Fail> {
         rows.push((Some(i64::from(number)), 0, number))?;
     }
     let whole = tapes_of(alloc, ASCENDING, &[&[&rows]])?;
-    let bytes_65: &[u8] = &[1, 0x80, 0, 0, 0, 0, 0, 0, 65, 0, 0, 0, 0, 0, 65];
-    let bytes_129: &[u8] = &[1, 0x80, 0, 0, 0, 0, 0, 0, 129, 0, 0, 0, 0, 0, 129];
-    let bytes_193: &[u8] = &[1, 0x80, 0, 0, 0, 0, 0, 0, 193, 0, 0, 0, 0, 0, 193];
+    let bytes_65: &[u8] = &[1, 0x80, 0, 0, 0, 0, 0, 0, 65];
+    let bytes_129: &[u8] = &[1, 0x80, 0, 0, 0, 0, 0, 0, 129];
+    let bytes_193: &[u8] = &[1, 0x80, 0, 0, 0, 0, 0, 0, 193];
     assert_cuts(
         &rt,
         alloc,
@@ -311,7 +349,7 @@ fn the_order_is_cut_at_samples(rt: HostRuntime) -> Result<(), Fail> {
     let none = tapes_of(alloc, ASCENDING, &[])?;
     assert_cuts(&rt, alloc, &none, 4, &[&[], &[], &[]], &[0, 0, 0, 0])?;
     let one = tapes_of(alloc, ASCENDING, &[&[&[(Some(5), 1, 2)]]])?;
-    let bytes_5: &[u8] = &[1, 0x80, 0, 0, 0, 0, 0, 0, 5, 0, 0, 0, 1, 0, 2];
+    let bytes_5: &[u8] = &[1, 0x80, 0, 0, 0, 0, 0, 0, 5];
     assert_cuts(&rt, alloc, &one, 2, &[bytes_5], &[0, 1])?;
     let same: &[Row] = &[(Some(5), 1, 2)];
     let equal = tapes_of(alloc, ASCENDING, &[&[same, same, same], &[same]])?;
@@ -323,6 +361,42 @@ fn the_order_is_cut_at_samples(rt: HostRuntime) -> Result<(), Fail> {
         &[bytes_5, bytes_5, bytes_5],
         &[0, 0, 0, 4],
     )
+}
+
+// 250 rows of a block, whose keys are so many numbers in turn.
+fn rows_in_turn(alloc: Global, block: u32, keys: u16) -> Result<Vec<Row>, AllocError>
+    requires { 1 ≤ keys }
+{
+    let mut rows = Vec::new(alloc);
+    for number in 1..=250u16 {
+        rows.push((Some(i64::from(number % keys)), block, number))?;
+    }
+    Ok(rows)
+}
+
+// Two tapes of two such runs each.
+fn tapes_in_turn(alloc: Global, keys: u16) -> Result<Tapes, AllocError>
+    requires { 1 ≤ keys }
+    ensures { IfOk result (AllHaveOrder (ASCENDING ∷ [])) }
+{
+    let first = rows_in_turn(alloc, 0, keys)?;
+    let second = rows_in_turn(alloc, 1, keys)?;
+    let third = rows_in_turn(alloc, 2, keys)?;
+    let fourth = rows_in_turn(alloc, 3, keys)?;
+    tapes_of(alloc, ASCENDING, &[&[&first, &second], &[&third, &fourth]])
+}
+
+#[test]
+fn equal_keys_stay_in_one_part(rt: HostRuntime) -> Result<(), Fail> {
+    let alloc = rt.alloc();
+    let equal = tapes_in_turn(alloc, 1)?;
+    assert_sizes(&rt, alloc, &equal, 1, &[1000])?;
+    assert_sizes(&rt, alloc, &equal, 2, &[0, 1000])?;
+    let mut last_of_31 = [0; 31];
+    last_of_31[30] = 1000;
+    assert_sizes(&rt, alloc, &equal, 31, &last_of_31)?;
+    let three = tapes_in_turn(alloc, 3)?;
+    assert_sizes(&rt, alloc, &three, 8, &[0, 0, 0, 332, 0, 336, 0, 332])
 }
 
 // The records of one run.

@@ -1,4 +1,4 @@
-use Rattle.std.proofs.Common.{◌∙◌, sym, arith, refl}
+use Rattle.std.proofs.Common.{sym, arith, refl}
 use mir.Val.{bool_byte}
 use Rattle.run_merge.specs.Heads.{is_behind}
 use Rattle.run_merge.proofs.Heaping.{counted_first, left_first, same_test, behind_weak}
