@@ -19,6 +19,7 @@ pub mod Room
 pub mod NodePages
 pub mod FileBlocks
 pub mod Buffer
+pub mod LeafBuffer
 pub mod BegunPages
 pub mod TupleRoom
 pub mod OpenPages
@@ -31,6 +32,10 @@ pub mod Finishing
 pub mod Sharing
 pub mod TupleImages
 pub mod Takings
+pub mod Bringing
+pub mod Parting
 pub mod Puts
--- which rows a packer takes: cited by the crates above
+pub mod Writings
+pub mod Adding
+-- which rows and runs are taken: cited by the crates above
 pub mod RowsTaken

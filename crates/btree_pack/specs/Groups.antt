@@ -1,6 +1,6 @@
 -- Sorted rows in groups, each of which has one leaf tuple (nbtdedup.c; _bt_load and _bt_sort_dedup_finish_pending of
 -- nbtsort.c): rows with equal keys share tuples with lists of row pointers.
-use Rattle.std.specs.Prelude.{ℕ, zero, suc, ◌+◌, ◌-◌, ◌*◌, ◌/◌, max, Bool, nat_le, if◌then◌else◌, List, [], ◌∷◌, length, take, drop}
+use Rattle.std.specs.Prelude.{◌≡◌, ℕ, zero, suc, ◌+◌, ◌-◌, ◌*◌, ◌/◌, max, Bool, false, nat_le, if◌then◌else◌, List, [], ◌∷◌, length, take, drop}
 use Rattle.std.specs.List.{flat_map}
 use Rattle.std.specs.Ordering.{is_eq}
 use Rattle.pg_bytes.specs.Numbers.{rounded_up}
@@ -8,6 +8,7 @@ use Rattle.pg_bytes.specs.PageLayout.{page_size, line_pointer_size}
 use Rattle.pg_bytes.specs.declared.row_ptr.RowPtr.{RowPtr}
 use Rattle.opclass.specs.Order.{key_cmp}
 use Rattle.opclass.specs.declared.value.KeyVal.{KeyVal}
+use Rattle.btree_pack.specs.Ends.{last_of}
 
 -- a row of the index: the values of its key columns and of its INCLUDE columns, and where the heap has it
 pub record Row : Type 0 where
@@ -27,6 +28,12 @@ rows_of group = group.first ∷ group.others
 -- whether rows have equal keys, whatever the directions of the columns
 abbrev pub have_same_keys : Row → Row → Bool
 have_same_keys a b = is_eq (key_cmp [] a.keys b.keys)
+
+-- no key stands on both sides of the place between rows and those behind them
+abbrev pub KeysPart : List Row → List Row → Type 0
+KeysPart [] more = Unit {0}
+KeysPart (row ∷ rows) [] = Unit {0}
+KeysPart (row ∷ rows) (next ∷ more) = have_same_keys (last_of row rows) next ≡ false
 
 -- a row before groups: it is of the first one where the keys are equal
 abbrev pub with_row : Row → List Group → List Group

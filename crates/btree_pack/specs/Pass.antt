@@ -26,3 +26,9 @@ pub mod Rows
 pub mod Taken
 -- a packer once rows were put
 pub mod Put
+-- leaf tuples apart from the pages
+pub mod Run
+-- a writer of leaf tuples once rows were put
+pub mod Written
+-- a packer of runs once runs were added
+pub mod Added

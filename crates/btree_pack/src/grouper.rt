@@ -1,15 +1,14 @@
-ghost use Rattle.std.specs.Prelude.{◌≡◌, ◌+◌, ◌*◌, ◌<◌, ◌≤◌, ◌^◌, ◌++◌, ◌∷◌, ◌&&◌, List, [], IfOk, OnOk, None, Some, length, nat_le, nat_lt};
+ghost use Rattle.std.specs.Prelude.{◌≡◌, ◌+◌, ◌*◌, ◌<◌, ◌≤◌, ◌^◌, ◌++◌, ◌∷◌, ◌&&◌, [], IfOk, IfSome, OnOk, None, length, nat_le, nat_lt};
 ghost use Rattle.btree_item.specs.Tuple.{size_of};
-ghost use Rattle.btree_pack.specs.Groups.{Row, posting_size};
-ghost use Rattle.btree_pack.specs.Pass.Grouped.{HasRoom, IsGroupOf};
-ghost use Rattle.btree_pack.specs.Pass.Packing.{IsTuple, high_key_room};
-ghost use Rattle.btree_pack.specs.Pass.Sight.{packing_of};
-ghost use Rattle.btree_pack.specs.Pass.Taken.{HasBegun, HasEmitted, HasPacked, IsOfOneIndex, IsReady, IsRowOf, last_image, row_of};
+ghost use Rattle.btree_pack.specs.Groups.{posting_size};
+ghost use Rattle.btree_pack.specs.Nodes.{shares_tuples};
+ghost use Rattle.btree_pack.specs.Pass.Grouped.{HasRoom, IsGroupOf, group_image};
+ghost use Rattle.btree_pack.specs.Pass.Put.{AreColumnsOf};
+ghost use Rattle.btree_pack.specs.Pass.Taken.{HasBegun, HasTaken, HasTakenLast, IsDone, IsOfOneIndex, IsReady, IsRowOf, row_of};
 
-use crate::open_tower::OpenTower;
 use crate::row_group::RowGroup;
 use btree_item::{size_of, truncate};
-use opclass::{KeyList, Kinds};
+use opclass::{IndexSpec, KeyList, Kinds};
 use pg_bytes::{RowPtr, al8};
 use shared_tape::Record;
 use std::alloc::{AllocError, Global};
@@ -18,55 +17,93 @@ use std::mem;
 // The most bytes of a tuple with a list of row pointers (`maxpostingsize` of `nbtsort.c`).
 const POSTING_LIMIT: u64 = 812;
 
-/// Joins rows with equal keys and brings the tuples to the leaves: the group that came last to the
-/// leaves, and the one that another row may still join (`BTDedupState` of `nbtree.h`).
+/// Joins rows with equal keys, and writes the tuples of the groups: the group that another row may
+/// still join (`BTDedupState` of `nbtree.h`).
 #[derive(Debug, Drop)]
 pub struct Grouper {
     pub alloc: Global,
-    pub tower: OpenTower,
     pub kinds: Kinds,
     pub keys: usize,
     pub shares: bool,
-    pub last: Option<RowGroup>,
     pub pending: Option<RowGroup>,
     // Values that no group has any more, for their memory.
     pub spare: KeyList,
     pub ptrs: Vec<RowPtr>,
+    // The tuple of the group that was done last.
     pub tuple: Vec<u8>,
 }
 
 impl Grouper {
-    /// Takes one row more. The record's values are others then, whose memory the next row can have.
-    pub fn take(&mut self, row: &mut Record) -> Result<(), AllocError>
+    /// No rows, for an index with these columns, the keys first.
+    pub fn new(alloc: Global, spec: &IndexSpec, kinds: Kinds) -> Grouper
+        requires { AreColumnsOf spec.now kinds }
+        ensures ready { IsReady result }
+        ensures pending { result.pending ≡ None }
+        ensures kinds { result.kinds ≡ kinds }
+        ensures keys { result.keys ≡ length spec.now.keys }
+        ensures shares { result.shares ≡ shares_tuples spec.now }
+    {
+        Grouper {
+            alloc,
+            keys: spec.keys.len(),
+            kinds,
+            shares: may_share(spec),
+            pending: None,
+            spare: KeyList::new(alloc),
+            ptrs: Vec::new(alloc),
+            tuple: Vec::new(alloc),
+        }
+    }
+
+    /// Takes one row more. Where it doesn't join the group of the last one, that is done: it is
+    /// given back, and its tuple is written. The record's values are others then, whose memory the
+    /// next row can have.
+    pub fn take(&mut self, row: &mut Record) -> Result<Option<RowGroup>, AllocError>
         requires ready { IsReady self.old }
         requires row { IsRowOf self.old.kinds self.old.keys (row_of row.old) }
         ensures ready { OnOk result (IsReady self.new) }
-        ensures packed { OnOk result ((rows : List Row) → HasPacked rows self.old
-            → HasPacked (rows ++ row_of row.old ∷ []) self.new) }
         ensures same { OnOk result (IsOfOneIndex self.old self.new) }
+        ensures done { IfOk result (λ over. IfSome over (IsDone self.new)) }
+        ensures taken { IfOk result (HasTaken self.old self.new (row_of row.old)) }
     {
         let ptr = row.ptr;
         let mut values = mem::replace(&mut self.spare, KeyList::new(self.alloc));
         exchange(row, &mut values)?;
         let Some(group) = self.pending.take() else {
             self.begin(values, ptr, 0, None)?;
-            return Ok(());
+            return Ok(None);
         };
         let kept = truncate(&group.values, &values);
         if self.joins(&group, kept) {
             self.ptrs.push(ptr)?;
             self.pending = Some(group);
             self.spare = values;
-            return Ok(());
+            return Ok(None);
         }
-        let last = self.ptrs[self.ptrs.len() - 1];
-        self.emit(group)?;
+        self.write(&group)?;
         if usize::from(kept) > self.keys {
+            let last = self.ptrs[self.ptrs.len() - 1];
             self.begin(values, ptr, self.keys as u16, Some(last))?;
-            return Ok(());
+            return Ok(Some(group));
         }
         self.begin(values, ptr, kept, None)?;
-        Ok(())
+        Ok(Some(group))
+    }
+
+    /// The group of the last row, whose tuple is written then: no row joins it any more. None comes
+    /// where no rows were taken.
+    pub fn take_last(&mut self) -> Result<Option<RowGroup>, AllocError>
+        requires ready { IsReady self.old }
+        ensures ready { OnOk result (IsReady self.new) }
+        ensures same { OnOk result (IsOfOneIndex self.old self.new) }
+        ensures done { IfOk result (λ over. IfSome over (IsDone self.new)) }
+        ensures taken { IfOk result (HasTakenLast self.old self.new) }
+    {
+        let Some(group) = self.pending.take() else {
+            return Ok(None);
+        };
+        self.write(&group)?;
+        Ok(Some(group))
     }
 
     // Whether a row joins a group, of whose values a separator would keep so many.
@@ -103,30 +140,16 @@ impl Grouper {
         Ok(())
     }
 
-    /// Brings the tuple of a group to the leaves.
-    pub fn emit(&mut self, group: RowGroup) -> Result<(), AllocError>
-        requires ready { IsReady self.old }
-        requires group { IsGroupOf self.old.kinds self.old.keys group }
+    // Writes the tuple of a group, whose rows have the row pointers that are kept.
+    fn write(&mut self, group: &RowGroup) -> Result<(), AllocError>
+        requires group { IsGroupOf self.old.kinds self.old.keys group.now }
         requires some { 0 < length self.old.ptrs.items }
-        requires room { HasRoom self.old.kinds self.old.keys group (length self.old.ptrs.items) }
-        requires none { self.old.pending ≡ None }
-        ensures emitted { OnOk result (HasEmitted self.old self.new group) }
-        ensures ready { OnOk result (IsReady self.new) }
-        ensures none { OnOk result (self.new.pending ≡ None) }
-    {
-        self.bring(group)?;
-        Ok(())
-    }
-
-    // Makes the tuple of a group and adds it to the leaves.
-    fn bring(&mut self, group: RowGroup) -> Result<(), AllocError>
-        requires ready { IsReady self.old }
-        requires group { IsGroupOf self.old.kinds self.old.keys group }
-        requires some { 0 < length self.old.ptrs.items }
-        requires room { HasRoom self.old.kinds self.old.keys group (length self.old.ptrs.items) }
-        requires none { self.old.pending ≡ None }
-        ensures emitted { OnOk result (HasEmitted self.old self.new group) }
-        ensures none { OnOk result (self.new.pending ≡ None) }
+        requires room { HasRoom self.old.kinds self.old.keys group.now
+            (length self.old.ptrs.items) }
+        ensures tuple { OnOk result (self.new.tuple.items
+            ≡ group_image self.old.kinds self.old.keys group.now self.old.ptrs.items) }
+        ensures done { OnOk result (IsDone self.new group.now) }
+        ensures others { OnOk result (self.new ≡ record self.old { tuple = self.new.tuple }) }
     {
         self.tuple.clear();
         group.put_tuple(
@@ -134,45 +157,15 @@ impl Grouper {
             self.kinds.as_slice(),
             self.keys,
             &self.ptrs,
-        )?;
-        let extra = self.tuple.len() - group.size as usize;
-        if self.tower.is_full(self.tuple.len()) {
-            let high_key = self.high_key()?;
-            self.tower.turn(high_key, &mut self.tuple, extra)?;
-        } else {
-            self.tower.add(&mut self.tuple, extra)?;
-        }
-        self.keep_last(group);
-        Ok(())
+        )
     }
+}
 
-    // Keeps the group that came last to the leaves in place of the one before.
-    fn keep_last(&mut self, group: RowGroup)
-        ensures { self.new ≡ record self.old { last = Some group; spare = self.new.spare } }
-    {
-        if let Some(before) = self.last.replace(group) {
-            self.spare = before.values;
-        }
-    }
-
-    // The high key of the open leaf, whose last tuple is that of the last group.
-    #[cold]
-    #[inline(never)]
-    fn high_key(&self) -> Result<Vec<u8>, AllocError>
-        requires ready { IsReady self.now }
-        requires leaf { 0 < length (packing_of self.now.tower).pages }
-        ensures value { IfOk result (λ key.
-            key.items ≡ last_image self.now.kinds self.now.keys self.now.last) }
-        ensures tuple { IfOk result (λ key. IsTuple key.items) }
-        ensures room { IfOk result (λ key.
-            length key.items ≤ high_key_room (packing_of self.now.tower)) }
-    {
-        let Some(last) = &self.last else {
-            unreachable!();
-        };
-        let key = last.high_key(self.alloc, self.kinds.as_slice(), self.keys)?;
-        Ok(key)
-    }
+// Whether rows of one key share tuples (`_bt_allequalimage` and `BTGetDeduplicateItems`).
+fn may_share(spec: &IndexSpec) -> bool
+    ensures { result ≡ shares_tuples spec.now }
+{
+    spec.deduplicate && (!spec.unique && spec.includes.len() == 0)
 }
 
 // Gives a record's values, in exchange for others whose memory it can have.

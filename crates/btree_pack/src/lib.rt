@@ -35,6 +35,17 @@
 //! that a leaf is numbered before its new parent. When all rows have come, the open pages are
 //! finished from the leaves up.
 //!
+//! # Runs of leaf tuples
+//!
+//! Of all this only the pages hang on what came before. A leaf tuple is made of the rows of one
+//! key, and its separator of these and of the group before them. So where sorted rows are cut into
+//! runs between which the key changes, a `LeafWriter` for each run writes its leaf tuples and their
+//! separators on a thread of its own, into a `LeafRun`. A `RunPacker` then takes the runs in their
+//! order and lays pages of tuples that are written. Of each run it makes one separator itself: that
+//! between the last group before the run and its first one, whose keys differ.
+//!
+//! # The definition
+//!
 //! The definition (`specs/`) has no open page and no counter. It says where a page ends (`Break`,
 //! `Pages`: the least item that breaks it, by sums over items), what the level above has (`Tower`),
 //! when pages are born and so how they are numbered (`Births`), and which bytes each block has
@@ -48,7 +59,11 @@
 //!   it took, each byte of it, whatever the rows are: over columns of any type, with any fill
 //!   factor, with tuples shared or not. It keeps one pass over them, with one open page on each
 //!   level. So does `OpenTower` for leaf items that are written already.
-//! - Where memory runs out on the way, `put` says so, and no file comes from that packing.
+//! - So does `RunPacker`, over the rows of all runs that it was given, where rows of one key stand
+//!   in one run (`KeysPart` of specs/Groups): the same file, however the rows are cut. A `LeafRun`
+//!   has the leaf tuples of the definition over its rows, each with its separator, and the keys of
+//!   its first and last row.
+//! - Where memory runs out on the way, `put` and `add` say so, and no file comes from that packing.
 //! - Of the definition of the whole file, over any rows: the groups hold exactly the rows
 //!   (`groups_hold_the_rows`), the leaves hold exactly their tuples, in order
 //!   (`leaf_items_are_the_groups`, `leaves_hold_the_items`), each level names each page of the
@@ -73,8 +88,9 @@
 //!
 //! # What is not
 //!
-//! - `Packer` takes the rows in the order in which they come. It tells equal keys from others, to
-//!   share their tuple, and nothing more: nothing here sorts rows or looks whether they are sorted.
+//! - `Packer` and `LeafWriter` take the rows in the order in which they come. They tell equal keys
+//!   from others, to share their tuple, and nothing more: nothing here sorts rows or looks whether
+//!   they are sorted. Nor does `RunPacker` look whether a key goes on from one run to the next.
 //! - Besides want of memory, a packing ends as if memory had run out where a file would have 2^31
 //!   blocks or more, 64 levels, or 2^64 leaf tuples: PostgreSQL numbers no such block.
 #![tactic(auto)]
@@ -82,11 +98,17 @@
 mod grouper;
 mod key_bounds;
 mod laws;
+mod leaf_run;
+mod leaf_writer;
+mod leaves;
 mod meta;
+mod open_leaves;
 mod open_page;
 mod open_tower;
 mod packer;
 mod row_group;
+mod run_leaves;
+mod run_packer;
 mod special;
 mod tuples;
 
@@ -102,8 +124,11 @@ pub use laws::{
     pages_are_numbered_as_born, pages_fit, step_takes_the_next_numbers, the_last_level_is_the_root,
     tower_grows_by_a_step,
 };
+pub use leaf_run::LeafRun;
+pub use leaf_writer::LeafWriter;
 pub use open_tower::OpenTower;
 pub use packer::Packer;
+pub use run_packer::RunPacker;
 
 #[cfg(test)]
 mod tests;

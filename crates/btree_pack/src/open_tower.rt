@@ -2,8 +2,8 @@ ghost use Rattle.std.specs.Prelude.{◌≡◌, ◌+◌, ◌-◌, ◌<◌, ◌≤
 ghost use Rattle.pg_bytes.specs.Image.{placed};
 ghost use Rattle.btree_pack.specs.Break.{page_room, spare};
 ghost use Rattle.btree_pack.specs.Pass.Finish.{IsFileOfThePacked};
-ghost use Rattle.btree_pack.specs.Pass.Packed.{packed};
-ghost use Rattle.btree_pack.specs.Pass.Packing.{IsTuple, added, breaks_leaf, carried, closed, finished_bytes, first_page, high_key_room, last_bytes, leaf_taken, next_page, pivot_of, turned, used, with_carried, with_tuple};
+ghost use Rattle.btree_pack.specs.Pass.Packed.{packed, tuple_came};
+ghost use Rattle.btree_pack.specs.Pass.Packing.{IsHighKey, IsTuple, added, breaks_leaf, carried, closed, finished_bytes, first_page, high_key_room, last_bytes, leaf_taken, next_page, pivot_of, turned, used, with_carried, with_tuple};
 ghost use Rattle.btree_pack.specs.Pass.Sight.{Closes, IsFinished, KeepsAllButPages, fillfactor_of, packing_of};
 ghost use Rattle.btree_pack.specs.Tuple.{minus_infinity};
 
@@ -115,6 +115,34 @@ impl OpenTower {
         self.join(0, tuple, extra)?;
         self.count_tuple()?;
         Ok(())
+    }
+
+    /// Adds a tuple that is written elsewhere to the open leaf, or finishes that one before with
+    /// this high key. The buffer is filled with the tuple, and what it has then isn't said. An
+    /// error means that no memory was left.
+    pub fn lay(
+        &mut self,
+        buffer: &mut Vec<u8>,
+        tuple: &[u8],
+        extra: usize,
+        high_key: &[u8],
+    ) -> Result<(), AllocError>
+        requires tuple { IsTuple tuple.now }
+        requires small { length tuple.now ≤ 2704 }
+        requires extra { extra ≤ 8192 }
+        requires high_key { 0 < length (packing_of self.old).pages
+            → IsHighKey high_key.now (packing_of self.old) }
+        ensures ok { OnOk result (packing_of self.new ≡ tuple_came (fillfactor_of self.old)
+            high_key.now (packing_of self.old) tuple.now extra) }
+        ensures fillfactor { OnOk result (fillfactor_of self.new ≡ fillfactor_of self.old) }
+    {
+        buffer.clear();
+        buffer.extend_from_slice(tuple)?;
+        if self.is_full(tuple.len()) {
+            let high_key = Vec::from_slice(self.alloc, high_key)?;
+            return self.turn(high_key, buffer, extra);
+        }
+        self.add(buffer, extra)
     }
 
     // The first leaf. Nothing is below its first key, which minus infinity stands for.

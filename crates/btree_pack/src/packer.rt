@@ -3,13 +3,15 @@ ghost use Rattle.opclass.specs.declared.spec.IndexSpec.{IndexSpec};
 ghost use Rattle.opclass.specs.declared.types.ColType.{ColType};
 ghost use Rattle.btree_pack.specs.Groups.{Row};
 ghost use Rattle.btree_pack.specs.Images.{images_of};
-ghost use Rattle.btree_pack.specs.Nodes.{btree_file, shares_tuples};
+ghost use Rattle.btree_pack.specs.Nodes.{btree_file};
 ghost use Rattle.btree_pack.specs.Pass.Put.{AreColumnsOf, HasPut, IsSpent, Takes};
-ghost use Rattle.btree_pack.specs.Pass.Taken.{IsReady, row_of};
+ghost use Rattle.btree_pack.specs.Pass.Taken.{AreReady, HasPacked, HasPackedAll, IsOfOneIndex, IsReady, IsRowOf, row_of};
+ghost use Rattle.btree_pack.specs.Pass.Sight.{fillfactor_of};
 
 use crate::grouper::Grouper;
+use crate::open_leaves::OpenLeaves;
 use crate::open_tower::OpenTower;
-use opclass::{IndexSpec, KeyList, Kinds};
+use opclass::{IndexSpec, Kinds};
 use pg_bytes::IndexImage;
 use shared_tape::Record;
 use std::alloc::{AllocError, Global};
@@ -20,19 +22,25 @@ use std::marker::Model;
 #[derive(Debug, Drop)]
 pub struct Packer {
     rows: Grouper,
+    leaves: OpenLeaves,
     spent: bool,
 }
 
 impl Model for Packer {
     ghost use Rattle.std.specs.Prelude.{◌≡◌, false};
-    ghost use Rattle.btree_pack.specs.Pass.Taken.{IsReady};
+    ghost use Rattle.btree_pack.specs.Pass.Taken.{AreReady, IsReady};
     ghost use Rattle.btree_pack.specs.Pass.Put.{Kept};
 
     ghost Value = { Kept };
 
-    ghost view = { λ packer. record { rows = packer.rows; spent = packer.spent } };
+    ghost view = { λ packer. record {
+      rows = packer.rows;
+      leaves = packer.leaves;
+      spent = packer.spent;
+    } };
 
-    ghost invariant = { λ packer. packer.spent ≡ false → IsReady packer.rows };
+    ghost invariant = { λ packer. packer.spent ≡ false
+        → IsReady packer.rows × AreReady packer.rows.kinds packer.rows.keys packer.leaves };
 }
 
 impl Packer {
@@ -42,19 +50,12 @@ impl Packer {
         requires { AreColumnsOf spec.now kinds }
         ensures { IfOk result (HasPut spec.now kinds []) }
     {
-        let rows = Grouper {
-            alloc,
-            tower: OpenTower::new(alloc, spec.fillfactor),
-            keys: spec.keys.len(),
-            kinds,
-            shares: may_share(spec),
-            last: None,
-            pending: None,
-            spare: KeyList::new(alloc),
-            ptrs: Vec::new(alloc),
-            tuple: Vec::new(alloc),
-        };
-        Ok(Packer { rows, spent: false })
+        let tower = OpenTower::new(alloc, spec.fillfactor);
+        Ok(Packer {
+            rows: Grouper::new(alloc, spec, kinds),
+            leaves: OpenLeaves { tower, last: None },
+            spent: false,
+        })
     }
 
     /// Puts a row behind the others, which come in their order. The packer takes the record's
@@ -72,7 +73,7 @@ impl Packer {
             return Err(AllocError);
         }
         self.spent = true;
-        self.rows.take(row)?;
+        put_row(&mut self.rows, &mut self.leaves, row)?;
         self.spent = false;
         Ok(())
     }
@@ -85,37 +86,66 @@ impl Packer {
             → file ≡ btree_file (images_of kinds (length spec.keys)) spec rows) }
         ensures spent { IsSpent self → IsErr result }
     {
-        let Packer { rows, spent } = self;
+        let Packer {
+            rows,
+            leaves,
+            spent,
+        } = self;
         if spent {
             return Err(AllocError);
         }
-        let file = finish_rows(rows)?;
+        let file = finish_rows(rows, leaves)?;
         Ok(file)
     }
 }
 
-// Whether rows of one key share tuples (`_bt_allequalimage` and `BTGetDeduplicateItems`).
-fn may_share(spec: &IndexSpec) -> bool
-    ensures { result ≡ shares_tuples spec.now }
+// One row more. The group that it doesn't join goes to the leaves.
+fn put_row(rows: &mut Grouper, leaves: &mut OpenLeaves, row: &mut Record) -> Result<(), AllocError>
+    requires rows { IsReady rows.old }
+    requires leaves { AreReady rows.old.kinds rows.old.keys leaves.old }
+    requires row { IsRowOf rows.old.kinds rows.old.keys (row_of row.old) }
+    ensures rows { OnOk result (IsReady rows.new) }
+    ensures leaves { OnOk result (AreReady rows.new.kinds rows.new.keys leaves.new) }
+    ensures packed { OnOk result ((put : List Row) → HasPacked put rows.old leaves.old
+        → HasPacked (put ++ row_of row.old ∷ []) rows.new leaves.new) }
+    ensures same { OnOk result (IsOfOneIndex rows.old rows.new) }
+    ensures fillfactor { OnOk result (fillfactor_of leaves.new.tower
+        ≡ fillfactor_of leaves.old.tower) }
 {
-    spec.deduplicate && (!spec.unique && spec.includes.len() == 0)
+    let Some(group) = rows.take(row)? else {
+        return Ok(());
+    };
+    leaves.bring(group, rows)?;
+    Ok(())
+}
+
+// The last group goes to the leaves.
+fn put_last(rows: &mut Grouper, leaves: &mut OpenLeaves) -> Result<(), AllocError>
+    requires rows { IsReady rows.old }
+    requires leaves { AreReady rows.old.kinds rows.old.keys leaves.old }
+    ensures packed { OnOk result ((put : List Row) → HasPacked put rows.old leaves.old
+        → HasPackedAll put rows.old leaves.new) }
+    ensures same { OnOk result (IsOfOneIndex rows.old rows.new) }
+    ensures fillfactor { OnOk result (fillfactor_of leaves.new.tower
+        ≡ fillfactor_of leaves.old.tower) }
+{
+    let Some(group) = rows.take_last()? else {
+        return Ok(());
+    };
+    leaves.bring(group, rows)?;
+    Ok(())
 }
 
 // The file of the rows that were taken.
-fn finish_rows(mut rows: Grouper) -> Result<IndexImage, AllocError>
-    requires { IsReady rows }
+fn finish_rows(mut rows: Grouper, mut leaves: OpenLeaves) -> Result<IndexImage, AllocError>
+    requires rows { IsReady rows }
+    requires leaves { AreReady rows.kinds rows.keys leaves }
     ensures { IfOk result (λ file. (spec : IndexSpec) → (kinds : List ColType) → (put : List Row)
-        → HasPut spec kinds put (record { rows = rows; spent = false })
+        → HasPut spec kinds put (record { rows = rows; leaves = leaves; spent = false })
         → file ≡ btree_file (images_of kinds (length spec.keys)) spec put) }
 {
-    let equal_images = rows.keys == rows.kinds.len();
-    let Some(group) = rows.pending.take() else {
-        let Grouper { tower, .. } = rows;
-        let file = tower.finish(equal_images)?;
-        return Ok(file);
-    };
-    rows.emit(group)?;
-    let Grouper { tower, .. } = rows;
-    let file = tower.finish(equal_images)?;
+    put_last(&mut rows, &mut leaves)?;
+    let OpenLeaves { tower, .. } = leaves;
+    let file = tower.finish(rows.keys == rows.kinds.len())?;
     Ok(file)
 }

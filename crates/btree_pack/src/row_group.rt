@@ -1,4 +1,4 @@
-ghost use Rattle.std.specs.Prelude.{◌≡◌, ◌<◌, ◌≤◌, [], IfOk, OnOk, length};
+ghost use Rattle.std.specs.Prelude.{◌≡◌, ◌+◌, ◌++◌, ◌<◌, ◌≤◌, [], IfOk, OnOk, length};
 ghost use Rattle.btree_pack.specs.Pass.Grouped.{HasRoom, IsGroupOf, group_image, separator_image};
 ghost use Rattle.btree_pack.specs.Pass.Packing.{IsTuple};
 
@@ -45,6 +45,30 @@ impl RowGroup {
         Ok(())
     }
 
+    /// Puts what separates these rows from the group before them behind the bytes of a buffer, as a
+    /// pivot tuple without a child.
+    pub fn put_separator(
+        &self,
+        out: &mut Vec<u8>,
+        kinds: &[ColType],
+        keys: usize,
+    ) -> Result<(), AllocError>
+        requires { IsGroupOf kinds.now keys self.now }
+        ensures value { OnOk result
+            (out.new.items ≡ out.old.items ++ separator_image kinds.now keys self.now) }
+        ensures tuple { IsTuple (separator_image kinds.now keys self.now) }
+        ensures size { length (separator_image kinds.now keys self.now) ≤ self.now.size + 8 }
+    {
+        put_pivot(
+            out,
+            &kinds[..keys],
+            &self.values.as_slice()[..keys],
+            self.kept,
+            self.pointer,
+            0,
+        )
+    }
+
     /// The high key of a page that ends before these rows.
     pub fn high_key(
         &self,
@@ -55,16 +79,10 @@ impl RowGroup {
         requires group { IsGroupOf kinds.now keys self.now }
         ensures value { IfOk result (λ key. key.items ≡ separator_image kinds.now keys self.now) }
         ensures tuple { IfOk result (λ key. IsTuple key.items) }
+        ensures size { IfOk result (λ key. length key.items ≤ self.now.size + 8) }
     {
         let mut high_key = Vec::new(alloc);
-        put_pivot(
-            &mut high_key,
-            &kinds[..keys],
-            &self.values.as_slice()[..keys],
-            self.kept,
-            self.pointer,
-            0,
-        )?;
+        self.put_separator(&mut high_key, kinds, keys)?;
         Ok(high_key)
     }
 }

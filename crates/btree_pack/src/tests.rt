@@ -1,6 +1,7 @@
 mod cases;
 mod columns;
 mod groups;
+mod runs;
 mod values;
 
 use crate::OpenTower;

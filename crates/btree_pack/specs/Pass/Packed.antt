@@ -1,9 +1,15 @@
 -- What the packer keeps once these leaf items came, one after the other. The separator of the last item is the high key
 -- of the page that is finished when the next one breaks the open leaf.
-use Rattle.std.specs.Prelude.{ℕ, List, [], ◌∷◌, if◌then◌else◌}
+use Rattle.std.specs.Prelude.{ℕ, List, [], ◌∷◌, length, if◌then◌else◌}
 use Rattle.btree_pack.specs.Break.{Item}
 use Rattle.btree_pack.specs.Leaves.{Content}
 use Rattle.btree_pack.specs.Pass.Packing.{Packing, added, breaks_leaf, turned}
+
+-- one tuple more, behind one with this separator
+abbrev pub tuple_came : ℕ → List ℕ → Packing → List ℕ → ℕ → Packing
+tuple_came fillfactor separator packing tuple extra =
+    added tuple extra
+    (if breaks_leaf fillfactor packing (length tuple) then turned fillfactor separator packing else packing)
 
 -- one item more, behind one with this separator
 abbrev pub arrived : ℕ → List ℕ → Packing → Item Content → Packing

@@ -187,6 +187,11 @@ pub record IsTuple (tuple : List ℕ) : Type 0 where
   pub least : minus_infinity_size ≤ length tuple
   pub most : length tuple ≤ 2712
 
+-- a key that can finish the open leaf: its last tuple leaves it room
+pub record IsHighKey (key : List ℕ) (packing : Packing) : Type 0 where
+  pub tuple : IsTuple key
+  pub room : length key ≤ high_key_room packing
+
 -- what holds of an open page, and of the count of what its tuples take
 pub record IsOpen (page : PageState) (taken : ℕ) : Type 0 where
   pub count : taken ≡ used page

@@ -7,10 +7,12 @@ use Rattle.btree_pack.specs.Nodes.{shares_tuples}
 use Rattle.btree_pack.specs.Pass.Sight.{fillfactor_of}
 use Rattle.btree_pack.specs.Pass.Taken.{HasPacked, IsRowOf}
 use Rattle.btree_pack.specs.declared.grouper.Grouper.{Grouper}
+use Rattle.btree_pack.specs.declared.open_leaves.OpenLeaves.{OpenLeaves}
 
 -- what a packer keeps, and whether memory has run out
 pub record Kept : Type 0 where
   pub rows : Grouper
+  pub leaves : OpenLeaves
   pub spent : Bool
 
 -- the types of an index's columns, keys first
@@ -32,5 +34,5 @@ pub record HasPut (spec : IndexSpec) (kinds : List ColType) (rows : List Row) (p
   pub keys : packer.rows.keys ≡ length spec.keys
   pub columns : AreColumnsOf spec kinds
   pub shares : packer.rows.shares ≡ shares_tuples spec
-  pub fillfactor : fillfactor_of packer.rows.tower ≡ spec.fillfactor
-  pub packed : HasPacked rows packer.rows
+  pub fillfactor : fillfactor_of packer.leaves.tower ≡ spec.fillfactor
+  pub packed : HasPacked rows packer.rows packer.leaves

@@ -24,6 +24,8 @@ pub enum Value {
     Number(i64),
     // The number of the row, counted from 1.
     Count,
+    // How many times so many rows stand before the row: so many rows have one value.
+    Each(u32),
     // So many letters x.
     Letters(usize),
     Bytes(&'static [u8]),
@@ -103,6 +105,7 @@ fn value_of(alloc: Global, value: Value, number: u32) -> Result<KeyVal, AllocErr
         Value::Null => Ok(KeyVal::Nil),
         Value::Number(number) => Ok(KeyVal::Num(number)),
         Value::Count => Ok(KeyVal::Num(i64::from(number))),
+        Value::Each(rows) => Ok(KeyVal::Num(i64::from(number / rows.max(1)))),
         Value::Letters(count) => bytes_of(alloc, &vec![in alloc; b'x'; count]?),
         Value::Bytes(bytes) => bytes_of(alloc, bytes),
     }
@@ -181,7 +184,7 @@ fn pointer_of(case: &Case, number: u32) -> RowPtr {
 }
 
 // The row of a number, counted from 0.
-fn row_at(
+pub fn row_at(
     rt: &impl Abort,
     alloc: Global,
     kinds: &Kinds,
@@ -199,14 +202,14 @@ fn row_at(
     Ok(row)
 }
 
-fn kinds_of(alloc: Global, kinds: &[ColType]) -> Result<Kinds, AllocError>
+pub fn kinds_of(alloc: Global, kinds: &[ColType]) -> Result<Kinds, AllocError>
     ensures { IfOk result (λ list. list ≡ kinds.now) }
 {
     let list = Vec::from_slice(alloc, kinds)?;
     Ok(Items::from_vec(list))
 }
 
-fn spec_of(alloc: Global, index: &Index) -> Result<IndexSpec, AllocError> {
+pub fn spec_of(alloc: Global, index: &Index) -> Result<IndexSpec, AllocError> {
     let mut keys = Vec::new(alloc);
     for _ in 0..index.keys {
         keys.push(KeyCol {
@@ -234,7 +237,7 @@ fn spec_of(alloc: Global, index: &Index) -> Result<IndexSpec, AllocError> {
 }
 
 // The file of rows.
-fn packed(
+pub fn packed(
     rt: &impl Abort,
     alloc: Global,
     spec: &IndexSpec,
