@@ -24,7 +24,7 @@ use Rattle.gin_pack.specs.File.{HasPostings, IsReadAsPostings, IsStored, ListTre
 use Rattle.gin_pack.specs.Records.{IsEntry}
 use Rattle.gin_pack.specs.Pass.Filling.{IsTuple}
 use Rattle.gin_pack.specs.Pass.Placing.{HaveRoom}
-use Rattle.gin_pack.specs.Pass.Storing.{IsListed}
+use Rattle.gin_pack.specs.Postings.{IsListed}
 use Rattle.gin_pack.proofs.EntryTuples.{leading-is_tuple, list-is_tuple}
 use Rattle.gin_pack.proofs.Fillings.{fill-is, tuples_of}
 use Rattle.gin_pack.proofs.PageReading.{inner-seen, leaf-seen}

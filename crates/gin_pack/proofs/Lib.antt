@@ -21,7 +21,7 @@ pub mod ListTrees
 pub mod Storings
 -- how they become a file
 pub mod Finishing
--- how records are taken
+-- how a writer takes records
 pub mod Takings
 -- what is read of a page
 pub mod PageReading
@@ -29,5 +29,13 @@ pub mod PageReading
 pub mod FileReading
 -- records tell postings
 pub mod Telling
+-- postings one behind the other
+pub mod Runs
+-- a writer has the postings of records
+pub mod Gatherings
+-- records that are stored as they come
+pub mod Receivings
 -- and become the file
 pub mod Packing
+-- postings by ranges of keys become the file
+pub mod Addings

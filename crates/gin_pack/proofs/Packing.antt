@@ -6,7 +6,7 @@ use Rattle.std.specs.List.Sorted.{IsPermutation}
 use Rattle.std.proofs.lemmas.List.{append-nil, length-map}
 use Rattle.std.proofs.lemmas.List.Concat.{flat_map-cons}
 use Rattle.std.proofs.lemmas.List.Elements.{All-head, All-tail}
-use Rattle.std.proofs.lemmas.List.Sorted.{All-permutation, IsPermutation-refl, length_permutation}
+use Rattle.std.proofs.lemmas.List.Sorted.{All-permutation, IsPermutation-refl, IsPermutation-sym, length_permutation}
 use Rattle.opclass.specs.declared.types.ColType.{ColType}
 use Rattle.gin_entry.specs.EntryMap.{Posting}
 use Rattle.gin_entry.specs.EntryOrder.{entry_order}
@@ -17,11 +17,11 @@ use Rattle.run_merge.specs.Sorted.{AreApart, row_of}
 use Rattle.run_merge.proofs.Merging.{none_merged}
 use Rattle.gin_pack.specs.File.{HasPostings, IsGinFile}
 use Rattle.gin_pack.specs.Records.{IsEntryRecord}
-use Rattle.gin_pack.specs.Pass.Storing.{IsListed}
-use Rattle.gin_pack.specs.Pass.Taking.{HasTaken, IsTaking, Takes, pairs_of}
+use Rattle.gin_pack.specs.Postings.{ArePostingsOf, IsListed, IsTold, pairs_of}
+use Rattle.gin_pack.specs.Pass.Taking.{HasTaken, IsTaking, Receives}
 use Rattle.gin_pack.specs.declared.packer.Packer.{Packer}
 use Rattle.gin_pack.proofs.FileReading.{file-is-read}
-use Rattle.gin_pack.proofs.Telling.{IsTold, Told, begun-told, came-below, joined-told, merged_next, none-told, told-map}
+use Rattle.gin_pack.proofs.Telling.{begun-told, came-below, joined-told, leads-moved, merged_next, none-told, told-map}
 
 -- records that came tell the postings that a packer took, and the others are left to a merge
 pub record AreComing (kind : ColType) (whole : List Record) (merge : Merging) (packer : Packer) : Type 0 where
@@ -30,7 +30,7 @@ pub record AreComing (kind : ColType) (whole : List Record) (merge : Merging) (p
   pub merged : AreMerged entry_order whole came merge.left
   pub left : All (IsEntryRecord kind) merge.left
   pub postings : List Posting
-  pub told : Told kind came postings
+  pub told : ArePostingsOf kind came postings
   pub taken : HasTaken kind postings packer
 
 pub none-came : (kind : ColType) (merge : Merging) (packer : Packer) → merge.order ≡ entry_order → All (IsEntryRecord kind) merge.left
@@ -46,14 +46,14 @@ none-came kind merge packer order left taken = record {
 }
 
 -- a posting has no more pointers than records came
-few-pointers : (bound : ℕ) (postings : List Posting) → length (flat_map pairs_of postings) < bound → AllByRecursion (λ posting. length posting.pointers < bound) postings
+pub few-pointers : (bound : ℕ) (postings : List Posting) → length (flat_map pairs_of postings) < bound → AllByRecursion (λ posting. length posting.pointers < bound) postings
 few-pointers bound [] few = tt
 few-pointers bound (posting ∷ postings) few =
     let parts = ap length (flat_map-cons pairs_of posting postings) ∙ length-append (pairs_of posting) (flat_map pairs_of postings) in
     let mine : length (pairs_of posting) ≡ length posting.pointers = length-map posting.pointers _ in
     (omega arith, few-pointers bound postings (omega arith))
 
-listed : (kind : ColType) (postings : List Posting) → AllByRecursion (IsTold kind) postings → AllByRecursion (IsListed kind) postings
+pub listed : (kind : ColType) (postings : List Posting) → AllByRecursion (IsTold kind) postings → AllByRecursion (IsListed kind) postings
 listed kind [] all = tt
 listed kind (posting ∷ postings) all = (all.0.listed, listed kind postings all.1)
 
@@ -74,7 +74,7 @@ may-take kind whole merge packer few coming =
 
 -- it took it
 pub one-came : (kind : ColType) (whole : List Record) (old new : Merging) (packer after : Packer) (row : Record) → AreApart whole
-    → GivesOne old row new → Takes packer after row.keys row.ptr → AreComing kind whole old packer → AreComing kind whole new after
+    → GivesOne old row new → Receives packer after row.keys row.ptr → AreComing kind whole old packer → AreComing kind whole new after
 one-came kind whole old new packer after row apart gives takes coming =
     let moved = All-permutation (IsEntryRecord kind) old.left (row ∷ new.left) gives.taken coming.left in
     let is : IsEntryRecord kind row = All-head (IsEntryRecord kind) row new.left moved in
@@ -95,20 +95,45 @@ one-came kind whole old new packer after row apart gives takes coming =
       taken = took.1;
     }
 
+-- ---- the file
+
+-- the file of the postings of records is that of their map, in whatever order the records are told
+pub file-of : (kind : ColType) (whole came : List Record) (postings : List Posting) (file : List ℕ) → IsPermutation whole came
+    → ArePostingsOf kind came postings → HasPostings kind file postings → IsGinFile kind whole file
+file-of kind whole came postings file same told built =
+    let is_map = told-map kind whole came postings same told in
+    record {
+      postings = postings;
+      map_is = is_map;
+      read = file-is-read kind file postings built (listed kind postings told.each) is_map.ascending is_map.lists;
+      built = built;
+    }
+
+-- a file is that of records in whatever order they are told
+pub moved-file : (kind : ColType) (records moved : List Record) (file : List ℕ) → IsPermutation records moved → IsGinFile kind records file
+    → IsGinFile kind moved file
+moved-file kind records moved file same is = record {
+  postings = is.postings;
+  map_is = record {
+    ascending = is.map_is.ascending;
+    lists = is.map_is.lists;
+    exactly = λ entry pointer. (
+      λ has. leads-moved records moved entry pointer same ((is.map_is.exactly entry pointer).0 has),
+      λ leads. (is.map_is.exactly entry pointer).1
+          (leads-moved moved records entry pointer (IsPermutation-sym records moved same) leads),
+    );
+  };
+  read = is.read;
+  built = is.built;
+}
+
 -- all came: the file is that of their map
 pub all-came : (kind : ColType) (whole : List Record) (merge : Merging) (packer : Packer) (file : List ℕ) → merge.left ≡ [] → AreComing kind whole merge packer
     → ((kind : ColType) → (postings : List Posting) → HasTaken kind postings packer → HasPostings kind file postings) → IsGinFile kind whole file
 all-came kind whole merge packer file none coming finished =
     let same : IsPermutation whole coming.came =
     subst (IsPermutation whole) (ap (λ (l : List Record). coming.came ++ l) none ∙ append-nil coming.came) coming.merged.same in
-    let is_map = told-map kind whole coming.came coming.postings same coming.told in
-    let built = finished kind coming.postings coming.taken in
-    record {
-      postings = coming.postings;
-      map_is = is_map;
-      read = file-is-read kind file coming.postings built (listed kind coming.postings coming.told.each) is_map.ascending is_map.lists;
-      built = built;
-    }
+    file-of kind whole coming.came coming.postings file same coming.told (finished kind coming.postings coming.taken)
 
 -- a merge has fewer records left once it gave one
 pub fewer-left : (old new : Merging) (row : Record) → GivesOne old row new → length new.left < length old.left

@@ -26,7 +26,8 @@ use Rattle.gin_pack.specs.EntryTuple.{leading_tuple, list_size, list_tuple, most
 use Rattle.gin_pack.specs.File.{ListTree, Stored, item_of, pages_apart, tuple_of}
 use Rattle.gin_pack.specs.Records.{IsEntry}
 use Rattle.gin_pack.specs.Pass.Filling.{IsLevelOf, IsTuple, NamesEntry, PutsItem, Takes}
-use Rattle.gin_pack.specs.Pass.Storing.{IsListed, IsStoredIn, IsStoring, IsWithin, PutsTuple, Stores}
+use Rattle.gin_pack.specs.Postings.{IsListed}
+use Rattle.gin_pack.specs.Pass.Storing.{IsStoredIn, IsStoring, IsWithin, PutsTuple, Stores}
 use Rattle.gin_pack.specs.declared.level.Level.{Level}
 use Rattle.gin_pack.specs.declared.store.EntryStore.{EntryStore}
 use Rattle.gin_pack.proofs.Blocks.{block-kept, bytes_of, stand-kept}

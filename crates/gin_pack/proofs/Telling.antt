@@ -30,20 +30,20 @@ use Rattle.shared_tape.specs.Stored.{record_cmp}
 use Rattle.posting_tree.specs.Segments.{AreAscending, IsStorable}
 use Rattle.run_merge.specs.Merging.{GivesOne, IsFirstOf, IsNotBelow, Merging}
 use Rattle.run_merge.specs.Pass.{AreMerged}
-use Rattle.run_merge.specs.Sorted.{AreApart, row_of}
+use Rattle.run_merge.specs.Sorted.{AreApart, AscendStrictly, row_of}
 use Rattle.run_merge.proofs.Merging.{merged_more}
 use Rattle.run_merge.proofs.Sorting.{Pairs, Pairs-from, Pairs-moved, Pairs-to, sorted_strictly}
 use Rattle.gin_pack.specs.File.{Leads}
 use Rattle.gin_pack.specs.Records.{IsEntryRecord}
-use Rattle.gin_pack.specs.Pass.Storing.{IsListed}
-use Rattle.gin_pack.specs.Pass.Taking.{Begins, Joins, pairs_of, with_pointer}
+use Rattle.gin_pack.specs.Postings.{ArePostingsOf, IsListed, IsTold, pairs_of}
+use Rattle.gin_pack.specs.Pass.Gathering.{Begins, Joins, with_pointer}
 use Rattle.gin_pack.proofs.Places.{all-push}
 use Rattle.gin_pack.proofs.Takings.{same-entry}
 
 -- ---- orders
 
 -- what makes one of two below the other
-then-less : (o p : Ordering) → ordering_then o p ≡ Less → (o ≡ Less) ⊎ ((o ≡ Equal) × (p ≡ Less))
+pub then-less : (o p : Ordering) → ordering_then o p ≡ Less → (o ≡ Less) ⊎ ((o ≡ Equal) × (p ≡ Less))
 then-less Less p is = inl refl
 then-less Equal p is = inr (refl, is)
 then-less Greater p is = absurd cc
@@ -52,7 +52,7 @@ numbers-compare : (m n : ℕ) → int_cmp (pos m) (pos n) ≡ nat_cmp m n
 numbers-compare m n = grind (arith, nat_tests)
 
 -- the columns of two entries compare as the entries
-columns-compare : (a b : Entry) → key_cmp entry_order (columns_of a) (columns_of b) ≡ entry_cmp a b
+pub columns-compare : (a b : Entry) → key_cmp entry_order (columns_of a) (columns_of b) ≡ entry_cmp a b
 columns-compare a b =
     ap (λ (o : Ordering). ordering_then o (ordering_then (column_cmp unsaid a.key b.key) Equal)) (numbers-compare a.category b.category)
     ∙ ap (ordering_then (nat_cmp a.category b.category)) (then-Equal (column_cmp unsaid a.key b.key))
@@ -102,19 +102,19 @@ ascending-push [] pointer up is all = (is, tt, tt)
 ascending-push (p ∷ []) pointer up is all = (up.0, all.0, (is, tt, tt))
 ascending-push (p ∷ next ∷ pointers) pointer up is all = (up.0, up.1, ascending-push (next ∷ pointers) pointer up.2 is all.1)
 
-weaker : {X : Type 0} (P Q : X → Type 0) → ((x : X) → P x → Q x) → (xs : List X) → AllByRecursion P xs → AllByRecursion Q xs
+pub weaker : {X : Type 0} (P Q : X → Type 0) → ((x : X) → P x → Q x) → (xs : List X) → AllByRecursion P xs → AllByRecursion Q xs
 weaker P Q leads [] all = tt
 weaker P Q leads (x ∷ xs) all = (leads x all.0, weaker P Q leads xs all.1)
 
-map-of-all : {X Y : Type 0} (P : Y → Type 0) (f : X → Y) (xs : List X) → AllByRecursion (λ x. P (f x)) xs → AllByRecursion P (map f xs)
+pub map-of-all : {X Y : Type 0} (P : Y → Type 0) (f : X → Y) (xs : List X) → AllByRecursion (λ x. P (f x)) xs → AllByRecursion P (map f xs)
 map-of-all P f [] all = tt
 map-of-all P f (x ∷ xs) all = (all.0, map-of-all P f xs all.1)
 
-front-of : {X : Type 0} (P : X → Type 0) (xs ys : List X) → AllByRecursion P (xs ++ ys) → AllByRecursion P xs
+pub front-of : {X : Type 0} (P : X → Type 0) (xs ys : List X) → AllByRecursion P (xs ++ ys) → AllByRecursion P xs
 front-of P [] ys all = tt
 front-of P (x ∷ xs) ys all = (all.0, front-of P xs ys all.1)
 
-back-of : {X : Type 0} (P : X → Type 0) (xs ys : List X) → AllByRecursion P (xs ++ ys) → AllByRecursion P ys
+pub back-of : {X : Type 0} (P : X → Type 0) (xs ys : List X) → AllByRecursion P (xs ++ ys) → AllByRecursion P ys
 back-of P [] ys all = all
 back-of P (x ∷ xs) ys all = back-of P xs ys all.1
 
@@ -162,22 +162,11 @@ pairs-push : (postings : List Posting) (posting : Posting) → flat_map pairs_of
 pairs-push postings posting =
     flat_map-append pairs_of postings (posting ∷ []) ∙ ap (λ l. flat_map pairs_of postings ++ l) (append-nil (pairs_of posting))
 
--- a listed posting, and its pointers in order
-pub record IsTold (kind : ColType) (posting : Posting) : Type 0 where
-  pub listed : IsListed kind posting
-  pub sorted : IsStrictlySortedBy pointer_cmp posting.pointers
-
--- records that came are these postings
-pub record Told (kind : ColType) (came : List Record) (postings : List Posting) : Type 0 where
-  pub pairs : map row_of came ≡ flat_map pairs_of postings
-  pub ascending : IsStrictlySortedBy entry_cmp (entries_of postings)
-  pub each : AllByRecursion (IsTold kind) postings
-
-pub none-told : (kind : ColType) → Told kind [] []
+pub none-told : (kind : ColType) → ArePostingsOf kind [] []
 none-told kind = record { pairs = refl; ascending = sorted-none entry_cmp; each = tt }
 
 -- each record that came is below the next one, as a pair
-all-below : (kind : ColType) (came : List Record) (postings : List Posting) (row : Record) → Told kind came postings
+all-below : (kind : ColType) (came : List Record) (postings : List Posting) (row : Record) → ArePostingsOf kind came postings
     → AllByRecursion (λ r. record_cmp entry_order r row ≡ Less) came → AreBelow (flat_map pairs_of postings) (row_of row)
 all-below kind came postings row told all =
     subst (λ (p : List (List KeyVal × RowPtr)). AreBelow p (row_of row)) told.pairs
@@ -185,12 +174,12 @@ all-below kind came postings row told all =
 
 -- its pointer comes to the last entry
 pub joined-told : (kind : ColType) (came : List Record) (old new : List Posting) (row : Record) (entry : Entry) → row.keys ≡ columns_of entry
-    → IsStorable row.ptr → row.ptr.block < 2 ^ 32 → Told kind came old → AllByRecursion (λ r. record_cmp entry_order r row ≡ Less) came
-    → Joins old new entry row.ptr → Told kind (came ++ row ∷ []) new
+    → IsStorable row.ptr → row.ptr.block < 2 ^ 32 → ArePostingsOf kind came old → AllByRecursion (λ r. record_cmp entry_order r row ≡ Less) came
+    → Joins old new entry row.ptr → ArePostingsOf kind (came ++ row ∷ []) new
 joined-told kind came old new row entry keys storable block told less joins =
     let last : Posting = joins.last in
     let grown : Posting = with_pointer last row.ptr in
-    let was : Told kind came (joins.before ++ last ∷ []) = subst (Told kind came) joins.old_is told in
+    let was : ArePostingsOf kind came (joins.before ++ last ∷ []) = subst (ArePostingsOf kind came) joins.old_is told in
     let all = all-below kind came (joins.before ++ last ∷ []) row was less in
     let mine = back-of (λ p. row_cmp entry_order p (row_of row) ≡ Less) (flat_map pairs_of joins.before) (pairs_of last)
     (subst (λ (p : List (List KeyVal × RowPtr)). AreBelow p (row_of row)) (pairs-push joins.before last) all) in
@@ -200,7 +189,7 @@ joined-told kind came old new row entry keys storable block told less joins =
     let is = back-of (IsTold kind) joins.before (last ∷ []) was.each in
     let one = is.0 in
     let longer = length-append last.pointers (row.ptr ∷ []) in
-    let made : Told kind (came ++ row ∷ []) (joins.before ++ grown ∷ []) = record {
+    let made : ArePostingsOf kind (came ++ row ∷ []) (joins.before ++ grown ∷ []) = record {
       pairs =
           map-append row_of came (row ∷ [])
           ∙ ap (λ l. l ++ row_of row ∷ []) (was.pairs ∙ pairs-push joins.before last)
@@ -223,14 +212,14 @@ joined-told kind came old new row entry keys storable block told less joins =
         sorted = sorted-push pointer_cmp last.pointers row.ptr one.sorted under;
       });
     } in
-    subst (Told kind (came ++ row ∷ [])) (sym joins.new_is) made
+    subst (ArePostingsOf kind (came ++ row ∷ [])) (sym joins.new_is) made
 
 -- the last of postings, if there is one
-data Ends (postings : List Posting) : Type 0 where
+pub data Ends (postings : List Posting) : Type 0 where
   Nothing : postings ≡ [] → Ends postings
   Last : (front : List Posting) (last : Posting) → postings ≡ front ++ last ∷ [] → Ends postings
 
-ends : (postings : List Posting) → Ends postings
+pub ends : (postings : List Posting) → Ends postings
 ends [] = Nothing refl
 ends (posting ∷ postings) = more (ends postings)
   where
@@ -240,7 +229,7 @@ ends (posting ∷ postings) = more (ends postings)
 
 -- entries are below one that is another than the last and not below it
 entries-below : (kind : ColType) (came : List Record) (postings : List Posting) (row : Record) (entry : Entry) → row.keys ≡ columns_of entry
-    → Told kind came postings → AllByRecursion (λ r. record_cmp entry_order r row ≡ Less) came
+    → ArePostingsOf kind came postings → AllByRecursion (λ r. record_cmp entry_order r row ≡ Less) came
     → ((front : List Posting) (last : Posting) → postings ≡ front ++ last ∷ [] → last.entry ≢ entry)
     → AllByRecursion (λ e. entry_cmp e entry ≡ Less) (entries_of postings)
 entries-below kind came postings row entry keys told less other = by (ends postings)
@@ -248,7 +237,7 @@ entries-below kind came postings row entry keys told less other = by (ends posti
     by : Ends postings → AllByRecursion (λ e. entry_cmp e entry ≡ Less) (entries_of postings)
     by (Nothing none) = subst (λ (p : List Posting). AllByRecursion (λ e. entry_cmp e entry ≡ Less) (entries_of p)) (sym none) tt
     by (Last front last is) =
-        let was : Told kind came (front ++ last ∷ []) = subst (Told kind came) is told in
+        let was : ArePostingsOf kind came (front ++ last ∷ []) = subst (ArePostingsOf kind came) is told in
         let all = all-below kind came (front ++ last ∷ []) row was less in
         let mine = back-of (λ p. row_cmp entry_order p (row_of row) ≡ Less) (flat_map pairs_of front) (pairs_of last)
         (subst (λ (p : List (List KeyVal × RowPtr)). AreBelow p (row_of row)) (pairs-push front last) all) in
@@ -263,8 +252,8 @@ entries-below kind came postings row entry keys told less other = by (ends posti
 
 -- it begins another entry
 pub begun-told : (kind : ColType) (came : List Record) (old new : List Posting) (row : Record) (entry : Entry) → row.keys ≡ columns_of entry
-    → IsEntryRecord kind row → Told kind came old → AllByRecursion (λ r. record_cmp entry_order r row ≡ Less) came
-    → Begins old new entry row.ptr → Told kind (came ++ row ∷ []) new
+    → IsEntryRecord kind row → ArePostingsOf kind came old → AllByRecursion (λ r. record_cmp entry_order r row ≡ Less) came
+    → Begins old new entry row.ptr → ArePostingsOf kind (came ++ row ∷ []) new
 begun-told kind came old new row entry keys is told less begins =
     let first : Posting = record { entry = entry; pointers = row.ptr ∷ [] } in
     let same : is.entry ≡ entry = same-entry is.entry entry (sym is.keys ∙ keys) in
@@ -275,7 +264,7 @@ begun-told kind came old new row entry keys is told less begins =
       ascending = (is.pointer, tt, tt);
       blocks = (is.block, tt);
     } in
-    let made : Told kind (came ++ row ∷ []) (old ++ first ∷ []) = record {
+    let made : ArePostingsOf kind (came ++ row ∷ []) (old ++ first ∷ []) = record {
       pairs =
           map-append row_of came (row ∷ [])
           ∙ ap (λ l. l ++ row_of row ∷ []) told.pairs
@@ -289,7 +278,7 @@ begun-told kind came old new row entry keys is told less begins =
         sorted = sorted-one pointer_cmp row.ptr;
       });
     } in
-    subst (Told kind (came ++ row ∷ [])) (sym begins.new_is) made
+    subst (ArePostingsOf kind (came ++ row ∷ [])) (sym begins.new_is) made
 
 -- ---- the map
 
@@ -342,13 +331,13 @@ pair-leads records entry pointer there =
     Any-from (λ (r : Record). (r.keys ≡ columns_of entry) × (r.ptr ≡ pointer)) records some.1 (some.0, some.2, some.3)
     (ap (λ (p : List KeyVal × RowPtr). p.0) (sym some.4), ap (λ (p : List KeyVal × RowPtr). p.1) (sym some.4))
 
-leads-moved : (xs ys : List Record) (entry : Entry) (pointer : RowPtr) → IsPermutation xs ys → Leads xs entry pointer → Leads ys entry pointer
+pub leads-moved : (xs ys : List Record) (entry : Entry) (pointer : RowPtr) → IsPermutation xs ys → Leads xs entry pointer → Leads ys entry pointer
 leads-moved xs ys entry pointer same some =
     let there = Contains-permutation xs ys some.1 same (some.0, some.2, some.3) in
     Any-from (λ (r : Record). (r.keys ≡ columns_of entry) × (r.ptr ≡ pointer)) ys some.1 there some.4
 
 -- records that all came are the map of their postings
-pub told-map : (kind : ColType) (whole came : List Record) (postings : List Posting) → IsPermutation whole came → Told kind came postings → IsMapOf (Leads whole) postings
+pub told-map : (kind : ColType) (whole came : List Record) (postings : List Posting) → IsPermutation whole came → ArePostingsOf kind came postings → IsMapOf (Leads whole) postings
 told-map kind whole came postings same told = record {
   ascending = told.ascending;
   lists = All-from_recursion (λ posting. IsPostingList posting.pointers) postings
@@ -381,7 +370,7 @@ merged_next order whole merged old new row is gives was =
     (All-permutation (λ other. IsNotBelow order other row) old.left (row ∷ new.left) gives.taken first)
     (IsPermutation-refl new.left)
 
-pairs-front : {X : Type 0} (R : X → X → Type 0) (xs ys : List X) → Pairs R (xs ++ ys) → Pairs R xs
+pub pairs-front : {X : Type 0} (R : X → X → Type 0) (xs ys : List X) → Pairs R (xs ++ ys) → Pairs R xs
 pairs-front R [] ys pairs = tt
 pairs-front {X = X} R (x ∷ xs) ys pairs = (
   All-from_recursion (R x) xs (front-of (R x) xs ys (recursion_from_All (R x) (xs ++ ys) pairs.0)),
@@ -392,13 +381,21 @@ pairs-last : {X : Type 0} (R : X → X → Type 0) (xs : List X) (x : X) → Pai
 pairs-last R [] x pairs = tt
 pairs-last R (y ∷ xs) x pairs = ((back-of (R y) xs (x ∷ []) (recursion_from_All (R y) (xs ++ x ∷ []) pairs.0)).0, pairs-last R xs x pairs.1)
 
--- those that came before a record are below it, where no two are alike
+-- records that ascend strictly are below the last
+pub below-of : (order : List SortPart) (records : List Record) (row : Record) → AscendStrictly order (records ++ row ∷ [])
+    → AllByRecursion (λ r. record_cmp order r row ≡ Less) records
+below-of order records row up =
+    pairs-last (λ a b. record_cmp order a b ≡ Less) records row (Pairs-from (λ a b. record_cmp order a b ≡ Less) (records ++ row ∷ []) up)
+
+-- records that came ascend strictly, where no two are alike
+pub came-ascending : (order : List SortPart) (whole came left : List Record) → AreApart whole → AreMerged order whole came left → AscendStrictly order came
+came-ascending order whole came left apart merged =
+    let Differ : Record → Record → Type 0 = λ a b. row_of a ≢ row_of b in
+    let pairs = Pairs-moved Differ (λ a b other same. other (sym same)) whole (came ++ left) merged.same (Pairs-from Differ whole apart) in
+    let mine : AreApart came = Pairs-to Differ came (pairs-front Differ came left pairs) in
+    sorted_strictly order came came mine (record { same = IsPermutation-refl came; ascending = merged.ascending })
+
+-- those that came before a record are below it
 pub came-below : (order : List SortPart) (whole came left : List Record) (row : Record) → AreApart whole → AreMerged order whole (came ++ row ∷ []) left
     → AllByRecursion (λ r. record_cmp order r row ≡ Less) came
-came-below order whole came left row apart merged =
-    let now : List Record = came ++ row ∷ [] in
-    let Differ : Record → Record → Type 0 = λ a b. row_of a ≢ row_of b in
-    let pairs = Pairs-moved Differ (λ a b other same. other (sym same)) whole (now ++ left) merged.same (Pairs-from Differ whole apart) in
-    let mine : AreApart now = Pairs-to Differ now (pairs-front Differ now left pairs) in
-    let strict = sorted_strictly order now now mine (record { same = IsPermutation-refl now; ascending = merged.ascending }) in
-    pairs-last (λ a b. record_cmp order a b ≡ Less) came row (Pairs-from (λ a b. record_cmp order a b ≡ Less) now strict)
+came-below order whole came left row apart merged = below-of order came row (came-ascending order whole (came ++ row ∷ []) left apart merged)

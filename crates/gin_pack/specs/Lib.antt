@@ -8,6 +8,8 @@ pub mod EntryTree
 pub mod Meta
 -- the records that an index is packed from
 pub mod Records
+-- their postings
+pub mod Postings
 -- the whole file
 pub mod File
 -- what the packing keeps on its way

@@ -6,5 +6,11 @@ pub mod Filling
 pub mod Placing
 -- entries that are stored
 pub mod Storing
--- records that come in their order
+-- postings one behind the other
+pub mod Listing
+-- records that come in their order, and their postings
+pub mod Gathering
+-- postings that come by ranges of keys
+pub mod Adding
+-- records that are stored as they come
 pub mod Taking

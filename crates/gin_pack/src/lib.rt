@@ -10,11 +10,18 @@
 //!
 //! `ginbuild` of `gininsert.c` collects entries in memory and inserts them into the tree, page split
 //! by page split. Entries that come sorted need neither. The records of an entry come together, so
-//! its pointers are gathered until the next entry comes, and then the entry is stored: a list that
-//! fits goes into the tuple, another becomes a posting tree at once, behind the blocks that the
-//! image has. The tuple goes to the open leaf, or to the next one where it has no room there. An
-//! entry's tuple is at most 2,712 bytes, so that three of them have room on a page: a leaf is left
-//! only when it is filled by more than 5,400 bytes.
+//! its pointers are gathered until the next entry comes, and then its posting is done and can be
+//! stored: a list that fits goes into the tuple, another becomes a posting tree at once, behind the
+//! blocks that the image has. The tuple goes to the open leaf, or to the next one where it has no
+//! room there. An entry's tuple is at most 2,712 bytes, so that three of them have room on a page: a
+//! leaf is left only when it is filled by more than 5,400 bytes.
+//!
+//! Only the storing needs the file. So postings can be gathered on several threads, each over the
+//! sorted records of one range of keys: a `PostingWriter` gathers, and its `PostingRun` has all row
+//! pointers of the range in one buffer, 8 bytes for each, where the records would take many times as
+//! much. An `EntryPacker` stores the runs of the ranges, one behind the other. No entry stands in two
+//! ranges, so each posting is whole. `pack` is for one thread: it stores what is done as the next
+//! record comes, and never has more than one posting beside the one that comes.
 //!
 //! The idea that keeps this simple: a page has no number before its level is whole. While entries
 //! come, the leaves wait beside the image, each with the tuple by which the level above will name
@@ -45,6 +52,11 @@
 //! more than 2,712 bytes, and the meta page counts the file's blocks, the pages of the entry tree
 //! and of posting trees, which are all the others, and the entries.
 //!
+//! So does `EntryPacker` for the records of all its runs together, where these ascend strictly from
+//! the first run's first to the last run's last and no two runs have records of equal keys. A run
+//! has the postings of the records that its writer was given: their pairs of entry and pointer, in
+//! their order, and each entry once.
+//!
 //! # What is not
 //!
 //! - Nothing here sorts records or looks whether they are sorted: the merge below gives them so.
@@ -59,10 +71,14 @@ mod level;
 mod levels;
 mod meta;
 mod packer;
+mod posting_run;
+mod posting_writer;
 mod special;
 mod store;
 
-pub use packer::pack;
+pub use packer::{EntryPacker, pack};
+pub use posting_run::PostingRun;
+pub use posting_writer::PostingWriter;
 
 #[cfg(test)]
 mod tests;

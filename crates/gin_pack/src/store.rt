@@ -7,8 +7,9 @@ ghost use Rattle.posting_tree.specs.Segments.{AreAscending, segment};
 ghost use Rattle.gin_pack.specs.EntryTuple.{list_size};
 ghost use Rattle.gin_pack.specs.File.{HasPostings, Stored};
 ghost use Rattle.gin_pack.specs.Pass.Filling.{NamesEntry};
+ghost use Rattle.gin_pack.specs.Postings.{IsListed};
 ghost use Rattle.gin_pack.specs.Records.{IsEntry};
-ghost use Rattle.gin_pack.specs.Pass.Storing.{HasStored, IsListed, IsStoring, PutsTuple, Stores};
+ghost use Rattle.gin_pack.specs.Pass.Storing.{HasStored, IsStoring, PutsTuple, Stores};
 
 use crate::entry_tuple::{MOST_SIZE, list_place, put_leading_tuple, put_list_tuple};
 use crate::level::Level;

@@ -6,22 +6,11 @@ use Rattle.opclass.specs.declared.types.ColType.{ColType}
 use Rattle.gin_entry.specs.EntryMap.{Posting}
 use Rattle.posting_tree.specs.Levels.{Node, nodes_of}
 use Rattle.posting_tree.specs.PostingTree.{inner_kind as list_inner_kind, leaf_kind as list_leaf_kind}
-use Rattle.posting_tree.specs.Segments.{AreAscending, HaveBlocks}
 use Rattle.posting_tree.specs.Special.{leaf_flag}
-use Rattle.gin_pack.specs.EntryTuple.{most_size}
-use Rattle.gin_entry.specs.EntrySize.{entry_size}
 use Rattle.gin_pack.specs.File.{IsStored, ListTree, Stored, item_of, pages_apart, tuple_of}
-use Rattle.gin_pack.specs.Records.{IsEntry}
+use Rattle.gin_pack.specs.Postings.{IsListed}
 use Rattle.gin_pack.specs.Pass.Filling.{IsLevelOf}
 use Rattle.gin_pack.specs.declared.store.EntryStore.{EntryStore}
-
--- an entry and its pointers that an index may have
-pub record IsListed (kind : ColType) (posting : Posting) : Type 0 where
-  pub is_entry : IsEntry posting.entry
-  pub small : entry_size kind posting.entry ≤ most_size
-  pub some : 1 ≤ length posting.pointers
-  pub ascending : AreAscending posting.pointers
-  pub blocks : HaveBlocks posting.pointers
 
 -- a page of a file behind its meta page and its root
 pub record IsWithin (file : List ℕ) (node : Node) : Type 0 where
@@ -71,3 +60,9 @@ abbrev pub Stores : EntryStore → EntryStore → Posting → Type 0
 Stores old new posting =
     (kind : ColType) (stored : List Stored) → HasStored kind stored old
     → (apart : Option ListTree) × HasStored kind (stored ++ record { posting = posting; apart = apart } ∷ []) new
+
+-- these postings are stored behind the others
+abbrev pub StoresAll : EntryStore → EntryStore → List Posting → Type 0
+StoresAll old new postings =
+    (kind : ColType) (stored : List Stored) → HasStored kind stored old
+    → (more : List Stored) × (map (λ each. each.posting) more ≡ postings) × HasStored kind (stored ++ more) new
