@@ -16,15 +16,14 @@ use Rattle.shared_tape.specs.Stored.{record_cmp}
 use Rattle.run_merge.specs.Merging.{GivesOne, IsFirstOf, IsNotBelow, Merging}
 use Rattle.run_merge.specs.Pass.{AreMerged}
 use Rattle.run_merge.specs.Sorted.{IsSortedRecords}
-use Rattle.run_merge.proofs.Ascending.{sorted-append}
+use Rattle.run_merge.proofs.Ascending.{sorted-append, sorted-nil}
 use Rattle.run_merge.proofs.Firsts.{record_weak}
 use Rattle.run_merge.proofs.Merging.{all_merged, merged_more, none_merged}
 use Rattle.btree_pack.specs.Groups.{Row}
-use Rattle.btree_pack.specs.Pass.Put.{HasPut, Kept, Takes}
-use Rattle.btree_pack.specs.Pass.Taken.{IsRowOf, row_of}
+use Rattle.btree_pack.specs.Pass.Taken.{row_of}
 use Rattle.build_leader.specs.declared.fault.LeadFault.{LeadFault}
 use Rattle.build_leader.specs.declared.fault.LeadFault.TheVariants as lead
-use Rattle.build_leader.specs.Pass.{AreComing, AreRowsOf, IsClash, IsPackFault, WerePut}
+use Rattle.build_leader.specs.Pass.{AreComing, AreRowsOf, IsClash, IsIndexRow, IsPackFault, TakesRow, TakesRowsOf, WerePut}
 use Rattle.build_leader.specs.Unique.{Clash, ClashAt, IsFirstClash, NoneClash}
 use Rattle.build_leader.proofs.Inserting.{in_order}
 
@@ -152,91 +151,97 @@ fewer_left old new row gives =
     let same = length_permutation old.left (row ∷ new.left) gives.taken in
     omega (arith, same)
 
--- a packer takes a row
-pub put_more : (spec : IndexSpec) (kinds : List ColType) (packer packer' : Kept) (held : Record)
-    → ((rows : List Row) → HasPut spec kinds rows packer → HasPut spec kinds (rows ++ row_of held ∷ []) packer')
-    → (rows : List Record) → HasPut spec kinds (map row_of rows) packer
-    → HasPut spec kinds (map row_of (rows ++ held ∷ [])) packer'
-put_more spec kinds packer packer' held takes rows has =
-    subst (λ put. HasPut spec kinds put packer') (sym (map_push row_of rows held)) (takes (map row_of rows) has)
+module _ {P : Type 0} (has : IndexSpec → List ColType → List Row → P → Type 0) where
+  -- a packer takes a row
+  put_more : (spec : IndexSpec) (kinds : List ColType) (packer packer' : P) (held : Record) → TakesRow has packer held packer'
+      → (rows : List Record) → has spec kinds (map row_of rows) packer → has spec kinds (map row_of (rows ++ held ∷ [])) packer'
+  put_more spec kinds packer packer' held takes rows put =
+      subst (λ put. has spec kinds put packer') (sym (map_push row_of rows held)) (takes spec kinds (map row_of rows) put)
 
-module _ (spec : IndexSpec) (kinds : List ColType) (order : List SortPart) (whole : List Record) where
-  -- the packer takes the row that is held back
-  pub takes_held : (left : List Record) (packer : Kept) (held : Record) → AreComing spec kinds order whole left packer held
-      → Takes packer (row_of held)
-  takes_held left packer held was =
-      let row = All-head (λ row. IsRowOf kinds (length spec.keys) (row_of row)) held left was.rows in
-      subst (λ (keys : ℕ). IsRowOf packer.rows.kinds keys (row_of held)) (sym was.put.keys)
-      (subst (λ columns. IsRowOf columns (length spec.keys) (row_of held)) (sym was.put.kinds_are) row)
+  module _ (spec : IndexSpec) (kinds : List ColType) (order : List SortPart) (whole : List Record) where
+    -- the packer takes the row that is held back
+    pub takes_held : (takes : P → Row → Type 0) → TakesRowsOf has takes → (left : List Record) (packer : P) (held : Record)
+        → AreComing has spec kinds order whole left packer held → takes packer (row_of held)
+    takes_held takes law left packer held was =
+        law spec kinds (map row_of was.before) packer (row_of held) was.put
+        (All-head (IsIndexRow spec kinds) held left was.rows)
 
-  pub comes_first : (old new : Merging) (packer : Kept) (held : Record) → old.order ≡ order → whole ≡ old.left
-      → GivesOne old held new → AreRowsOf spec kinds old.left → HasPut spec kinds [] packer
-      → AreComing spec kinds order whole new.left packer held
-  comes_first old new packer held is whole_is gives rows put = record {
-    before = [];
-    merged = merged_next order whole [] old new held is gives
-        (none_merged order whole old.left (subst (IsPermutation whole) whole_is (IsPermutation-refl whole)));
-    unique = λ unique. none_alone spec held;
-    put = put;
-    rows = All-permutation (λ row. IsRowOf kinds (length spec.keys) (row_of row)) old.left (held ∷ new.left) gives.taken
-        rows;
-  }
+    -- no rows are put already
+    pub comes_none : (packer : P) → whole ≡ [] → has spec kinds [] packer → WerePut has spec kinds order whole packer
+    comes_none packer none put =
+        subst (λ rows. WerePut has spec kinds order rows packer) (sym none) (record {
+          sorted = [];
+          in_order = record {
+            same = IsPermutation-refl [];
+            ascending = sorted-nil (λ (a b : Record). is_lt (record_cmp order a b)) (record_weak order);
+          };
+          unique = λ said place a b at. cc;
+          put = put;
+        })
 
-  pub comes_next : (old new : Merging) (packer packer' : Kept) (held next : Record) → old.order ≡ order
-      → (was : AreComing spec kinds order whole old.left packer held) → GivesOne old next new
-      → ((rows : List Record) → HasPut spec kinds (map row_of rows) packer
-      → HasPut spec kinds (map row_of (rows ++ held ∷ [])) packer')
-      → (IsTrue spec.unique → Clash spec held next → ⊥)
-      → AreComing spec kinds order whole new.left packer' next
-  comes_next old new packer packer' held next is was gives put agree = record {
-    before = was.before ++ held ∷ [];
-    merged = merged_next order whole (was.before ++ held ∷ []) old new next is gives was.merged;
-    unique = λ unique. none_more spec was.before held next (was.unique unique) (agree unique);
-    put = put was.before was.put;
-    rows = All-permutation (λ row. IsRowOf kinds (length spec.keys) (row_of row)) old.left (next ∷ new.left) gives.taken
-        (All-tail (λ row. IsRowOf kinds (length spec.keys) (row_of row)) held old.left was.rows);
-  }
+    pub comes_first : (old new : Merging) (packer : P) (held : Record) → old.order ≡ order → whole ≡ old.left
+        → GivesOne old held new → AreRowsOf spec kinds old.left → has spec kinds [] packer
+        → AreComing has spec kinds order whole new.left packer held
+    comes_first old new packer held is whole_is gives rows put = record {
+      before = [];
+      merged = merged_next order whole [] old new held is gives
+          (none_merged order whole old.left (subst (IsPermutation whole) whole_is (IsPermutation-refl whole)));
+      unique = λ unique. none_alone spec held;
+      put = put;
+      rows = All-permutation (IsIndexRow spec kinds) old.left (held ∷ new.left) gives.taken rows;
+    }
 
-  pub comes_last : (left : List Record) (packer packer' : Kept) (held : Record)
-      → (was : AreComing spec kinds order whole left packer held) → left ≡ []
-      → ((rows : List Record) → HasPut spec kinds (map row_of rows) packer
-      → HasPut spec kinds (map row_of (rows ++ held ∷ [])) packer')
-      → WerePut spec kinds order whole packer'
-  comes_last left packer packer' held was none put = record {
-    sorted = was.before ++ held ∷ [];
-    in_order = all_merged order whole (was.before ++ held ∷ []) left was.merged none;
-    unique = was.unique;
-    put = put was.before was.put;
-  }
+    pub comes_next : (old new : Merging) (packer packer' : P) (held next : Record) → old.order ≡ order
+        → (was : AreComing has spec kinds order whole old.left packer held) → GivesOne old next new
+        → TakesRow has packer held packer' → (IsTrue spec.unique → Clash spec held next → ⊥)
+        → AreComing has spec kinds order whole new.left packer' next
+    comes_next old new packer packer' held next is was gives put agree = record {
+      before = was.before ++ held ∷ [];
+      merged = merged_next order whole (was.before ++ held ∷ []) old new next is gives was.merged;
+      unique = λ unique. none_more spec was.before held next (was.unique unique) (agree unique);
+      put = put_more spec kinds packer packer' held put was.before was.put;
+      rows = All-permutation (IsIndexRow spec kinds) old.left (next ∷ new.left) gives.taken
+          (All-tail (IsIndexRow spec kinds) held old.left was.rows);
+    }
 
-  comes_clash : (old new : Merging) (packer : Kept) (held next : Record) → old.order ≡ order
-      → (was : AreComing spec kinds order whole old.left packer held) → GivesOne old next new
-      → IsTrue spec.unique → Clash spec held next
-      → (sorted : List Record) × IsSortedRecords order whole sorted × IsFirstClash spec sorted held.ptr next.ptr
-  comes_clash old new packer held next is was gives unique clash =
-      let merged = was.before ++ held ∷ [] in
-      let all = all_in_order order whole (merged ++ next ∷ []) new.left
-      (merged_next order whole merged old new next is gives was.merged) in (
-        (merged ++ next ∷ []) ++ all.0,
-        all.1,
-        subst (λ rows. IsFirstClash spec rows held.ptr next.ptr) (sym (append_assoc merged (next ∷ []) all.0))
-            (first_clash spec was.before all.0 held next (was.unique unique) clash),
-      )
+    pub comes_last : (left : List Record) (packer packer' : P) (held : Record)
+        → (was : AreComing has spec kinds order whole left packer held) → left ≡ [] → TakesRow has packer held packer'
+        → WerePut has spec kinds order whole packer'
+    comes_last left packer packer' held was none put = record {
+      sorted = was.before ++ held ∷ [];
+      in_order = all_merged order whole (was.before ++ held ∷ []) left was.merged none;
+      unique = was.unique;
+      put = put_more spec kinds packer packer' held put was.before was.put;
+    }
 
-  -- why the row that is held back isn't put is why none are packed
-  pub comes_to_fault : (old new : Merging) (packer : Kept) (held next : Record) (fault : LeadFault) → old.order ≡ order
-      → AreComing spec kinds order whole old.left packer held → GivesOne old next new
-      → IsClash spec held next fault → IsPackFault spec order whole fault
-  comes_to_fault old new packer held next (lead.Row block item cause) is was gives none = none
-  comes_to_fault old new packer held next (lead.Duplicate first second) is was gives clash =
-      let told = comes_clash old new packer held next is was gives clash.0 clash.1 in (
-        clash.0,
-        (
-          told.0,
-          told.1,
-          subst (λ ptr. IsFirstClash spec told.0 first ptr) (sym clash.3)
-              (subst (λ ptr. IsFirstClash spec told.0 ptr next.ptr) (sym clash.2) told.2),
-        ),
-      )
-  comes_to_fault old new packer held next (lead.RangeWide range size) is was gives none = absurd none
-  comes_to_fault old new packer held next lead.Memory is was gives memory = tt
+    comes_clash : (old new : Merging) (packer : P) (held next : Record) → old.order ≡ order
+        → (was : AreComing has spec kinds order whole old.left packer held) → GivesOne old next new
+        → IsTrue spec.unique → Clash spec held next
+        → (sorted : List Record) × IsSortedRecords order whole sorted × IsFirstClash spec sorted held.ptr next.ptr
+    comes_clash old new packer held next is was gives unique clash =
+        let merged = was.before ++ held ∷ [] in
+        let all = all_in_order order whole (merged ++ next ∷ []) new.left
+        (merged_next order whole merged old new next is gives was.merged) in (
+          (merged ++ next ∷ []) ++ all.0,
+          all.1,
+          subst (λ rows. IsFirstClash spec rows held.ptr next.ptr) (sym (append_assoc merged (next ∷ []) all.0))
+              (first_clash spec was.before all.0 held next (was.unique unique) clash),
+        )
+
+    -- why the row that is held back isn't put is why none are packed
+    pub comes_to_fault : (old new : Merging) (packer : P) (held next : Record) (fault : LeadFault) → old.order ≡ order
+        → AreComing has spec kinds order whole old.left packer held → GivesOne old next new
+        → IsClash spec held next fault → IsPackFault spec order whole fault
+    comes_to_fault old new packer held next (lead.Row block item cause) is was gives none = none
+    comes_to_fault old new packer held next (lead.Duplicate first second) is was gives clash =
+        let told = comes_clash old new packer held next is was gives clash.0 clash.1 in (
+          clash.0,
+          (
+            told.0,
+            told.1,
+            subst (λ ptr. IsFirstClash spec told.0 first ptr) (sym clash.3)
+                (subst (λ ptr. IsFirstClash spec told.0 ptr next.ptr) (sym clash.2) told.2),
+          ),
+        )
+    comes_to_fault old new packer held next (lead.RangeWide range size) is was gives none = absurd none
+    comes_to_fault old new packer held next lead.Memory is was gives memory = tt

@@ -42,7 +42,6 @@ use Rattle.shared_tape.specs.Stored.{IsPointer}
 use Rattle.spool.specs.Gathers.{AreStorableEntries, entry_record}
 use Rattle.spool.specs.Laws.{HasShortElements, IsShort}
 use Rattle.spool.proofs.Storable.{entries_storable}
-use Rattle.run_merge.specs.Merging.{Merging}
 use Rattle.run_merge.specs.Sorted.{AreApart, row_of}
 use Rattle.run_merge.proofs.Sorting.{Pairs, Pairs-from, Pairs-moved, Pairs-to}
 use Rattle.gin_pack.specs.EntryTuple.{most_size}
@@ -52,7 +51,7 @@ use Rattle.build_leader.specs.Blocks.{IsWhole, block_count, most_blocks, page_of
 use Rattle.build_leader.specs.Entries.{HasWideEntry, array_of, row_entries, rows_entries}
 use Rattle.build_leader.specs.HeapRows.{AreBlockRows, AreHeapRows, AreRowsOfBlocks, HasSoundBlocks, IsSoundBlock}
 use Rattle.build_leader.specs.IndexRow.{AreIndexRows, HasIndexValues, IsIndexRow, index_columns, index_kinds, key_columns, needed_of}
-use Rattle.build_leader.specs.Gin.{IsEntryMerge, most_records}
+use Rattle.build_leader.specs.Gin.{AreEntries, most_records}
 use Rattle.build_leader.proofs.Apart.{Differ, Pairs-append, heap_pointers_differ}
 use Rattle.build_leader.proofs.IndexRecords.{kinds_count}
 
@@ -312,18 +311,18 @@ module _ (table : Table) (spec : IndexSpec) (kind : ColType) (over : IsIndexOver
         (record { sound = sound i below; few = omega (arith, few, below); none = none i below })))
         are)
 
-    -- so a merge of them gives what an index is packed from
-    pub is_entry_merge : (rows : List Record) (merged : Merging) → IsWhole heap → HasSoundBlocks table spec heap
+    -- in whatever order they are
+    pub are_entries : (rows records : List Record) → IsWhole heap → HasSoundBlocks table spec heap
         → ((block : ℕ) → block < block_count heap → NoneWide (page_of heap block))
-        → AreHeapRows table spec heap rows → merged.order ≡ entry_order → IsPermutation (rows_entries rows) merged.left
-        → length merged.left < most_records → IsEntryMerge (index_kinds table spec) merged
-    is_entry_merge rows merged whole sound none are order same few = record {
+        → AreHeapRows table spec heap rows → IsPermutation (rows_entries rows) records
+        → length records < most_records → AreEntries (index_kinds table spec) entry_order records
+    are_entries rows records whole sound none are same few = record {
       kind = kind;
       one = one;
-      order = order;
-      entries = All-permutation (IsEntryRecord kind) (rows_entries rows) merged.left same
+      order = refl;
+      entries = All-permutation (IsEntryRecord kind) (rows_entries rows) records same
           (entries_are_records rows whole sound none are);
-      apart = apart_permuted (rows_entries rows) merged.left same
+      apart = apart_permuted (rows_entries rows) records same
           (entries_apart rows (heap_pointers_differ table spec heap rows sound are));
       few = few;
     }

@@ -46,6 +46,12 @@ pub mod Determined
 pub mod Neighbours
 -- rows can be put in order
 pub mod Inserting
+-- what parts have become
+pub mod Made
+-- the parts of rows, one behind the other
+pub mod PartRows
+-- runs of leaf tuples of the parts
+pub mod LeafRuns
 -- rows on their way into a packer
 pub mod Coming
 -- lists that have each number as often
@@ -54,8 +60,8 @@ pub mod Counting
 pub mod SharedRows
 -- what a scan left with the workers
 pub mod ScannedRows
--- the parts of a merge by ranges
-pub mod Parts
+-- runs of postings of the parts
+pub mod PostingRuns
 -- what a worker has, block by block
 pub mod Working
 -- and claim by claim

@@ -17,9 +17,9 @@ use Rattle.gin_entry.specs.EntryOrder.{entry_order}
 use Rattle.shared_tape.specs.declared.stored.Record.{Record}
 use Rattle.shared_tape.specs.Runs.{RunView}
 use Rattle.shared_tape.specs.Stored.{IsStorable}
-use Rattle.run_merge.specs.Merging.{Merging}
 use Rattle.run_merge.specs.Sorted.{AllHaveOrder, IsSortedRecords, all_records}
 use Rattle.btree_pack.specs.Pass.Put.{AreColumnsOf}
+use Rattle.btree_pack.specs.Pass.Run.{RunView as LeafRunView}
 use Rattle.btree_pack.specs.Pass.Taken.{IsRowOf, row_of}
 use Rattle.build_leader.specs.declared.fault.LeadFault.{LeadFault}
 use Rattle.build_leader.specs.declared.fault.LeadFault.TheVariants as lead
@@ -30,15 +30,15 @@ use Rattle.build_leader.specs.declared.width.WidthCause.TheVariants as width
 use Rattle.build_leader.specs.Blocks.{block_count}
 use Rattle.build_leader.specs.Calls.{IsLeadFault, IsPlan, fault_of_ranges}
 use Rattle.build_leader.specs.Entries.{rows_entries}
-use Rattle.build_leader.specs.Gin.{IsEntryMerge, most_records}
+use Rattle.build_leader.specs.Gin.{AreEntries, most_records}
 use Rattle.build_leader.specs.Holding.{HoldBy, all_ranges, held_on, order_by}
 use Rattle.build_leader.specs.IndexRow.{TooWide, index_kinds}
 use Rattle.build_leader.specs.Outcome.{AreAccepted, AreIndexed, AreSortedRows, AreTakenRows, IsFileBy, order_of_index, pairs_by}
 use Rattle.build_leader.specs.Packing.{AreEntriesPacked, AreSummariesPacked, HaveHeapRows, IsPackedOf, IsRangeFault}
-use Rattle.build_leader.specs.Pass.{AreRowsOf, IsPackFault, IsPackedFile}
+use Rattle.build_leader.specs.Pass.{AreRowsOf, IsPackFault, IsPackedFile, IsWrittenRun}
 use Rattle.build_leader.specs.Ranges.{HoldRanges, range_summaries, told_of, told_ranges}
 use Rattle.build_leader.specs.Tally.{AreOfColumns}
-use Rattle.build_leader.proofs.EntryRecords.{is_entry_merge}
+use Rattle.build_leader.proofs.EntryRecords.{are_entries}
 use Rattle.build_leader.proofs.EntryRows.{is_gin_index}
 use Rattle.build_leader.proofs.Fitting.{few_keys, told_fit}
 use Rattle.build_leader.proofs.Holding.{held_are_summaries}
@@ -73,6 +73,16 @@ module _ (spec : IndexSpec) (order told : List SortPart) (whole left : List Reco
         in_order = whole_told packed.sorted packed.in_order;
         unique = packed.unique;
         file_is = packed.file_is;
+      })
+
+  pub whole_run : (kinds others : List ColType) (run : LeafRunView) → kinds ≡ others → IsWrittenRun spec kinds order left run
+      → IsWrittenRun spec others told whole run
+  whole_run kinds others run types is =
+      subst (λ (columns : List ColType). IsWrittenRun spec columns told whole run) types (record {
+        sorted = is.sorted;
+        in_order = whole_told is.sorted is.in_order;
+        unique = is.unique;
+        leaves = is.leaves;
       })
 
   pub whole_fault : (fault : LeadFault) → IsPackFault spec order left fault → IsPackFault spec told whole fault
@@ -237,20 +247,17 @@ module _ (plan : Plan) (heap : List ℕ) (tapes : List (List RunView)) (ranges :
         only (kind ∷ []) one = (kind, refl)
         only (kind ∷ other ∷ more) one = absurd (omega (arith, one))
 
-    pub entries_merge : (merged : Merging) → merged.order ≡ entry_order → IsPermutation (all_records tapes) merged.left
-        → length merged.left < most_records → IsEntryMerge kinds merged
-    entries_merge merged order same few =
-        is_entry_merge plan.table spec one_kind.0 well.index one_kind.1 heap have.rows merged have.whole have.sound
+    pub entries_on_tapes : length (all_records tapes) < most_records → AreEntries kinds entry_order (all_records tapes)
+    entries_on_tapes few =
+        are_entries plan.table spec one_kind.0 well.index one_kind.1 heap have.rows (all_records tapes) have.whole have.sound
         (λ block below item keys extra live has wide.
         (have.sound block below).items item (TooWide width.Entry) (live, (keys, extra, has, (gin_is, wide))))
-        have.of_heap order
-        (IsPermutation-trans (rows_entries have.rows) (all_records tapes) merged.left on_entry_tapes same) few
+        have.of_heap on_entry_tapes few
 
     pub entries_packed : (packed : Packed) → AreEntriesPacked plan (all_records tapes) packed → IsPackedOf plan heap count packed
     entries_packed packed are =
-        let on_file = IsPermutation-trans (rows_entries have.rows) (all_records tapes) are.merged on_entry_tapes are.same in
         is_packed Gin gin_is have.rows packed (is_indexed Gin gin_is have.rows have.of_heap tt)
-        (is_gin_index have.rows are.merged on_file kinds packed.image are.image)
+        (is_gin_index have.rows (all_records tapes) on_entry_tapes kinds packed.image are.image)
         (are.pairs ∙ length_permutation (rows_entries have.rows) (all_records tapes) on_entry_tapes) have.counted
 
     pub entry_fault : (fault : LeadFault) → fault ≡ lead.Memory → IsLeadFault plan heap fault

@@ -37,7 +37,7 @@ pub mod Teams
 -- what holds of all these
 pub mod Laws
 -- what the merge by ranges keeps
-pub mod Merging
+pub mod KeyParts
 -- what the pass over sorted rows keeps
 pub mod Pass
 -- what holds of a GIN index, whatever the rows are

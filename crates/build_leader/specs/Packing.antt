@@ -3,7 +3,6 @@ use Rattle.std.specs.Prelude.{◌≡◌, ℕ, List, All, length, None}
 use Rattle.brin_summary.specs.declared.file.BrinFault.{BrinFault}
 use Rattle.brin_summary.specs.Answer.{IsTold, wide_range}
 use Rattle.brin_summary.specs.File.{brin_file}
-use Rattle.std.specs.List.Sorted.{IsPermutation}
 use Rattle.shared_tape.specs.declared.stored.Record.{Record}
 use Rattle.shared_tape.specs.Runs.{RunView}
 use Rattle.shared_tape.specs.Stored.{IsStorable}
@@ -56,9 +55,7 @@ pub record IsRangeFault (plan : Plan) (blocks : ℕ) (ranges : List SummedRange)
   pub is : IsTold (index_kinds plan.table plan.spec) (told_ranges plan.spec blocks ranges) told
   pub fault_is : fault ≡ fault_of_ranges told
 
--- a file is that of these records of entries in their order, and so many they are
+-- a file is that of these records of entries, and so many they are
 pub record AreEntriesPacked (plan : Plan) (records : List Record) (packed : Packed) : Type 0 where
-  pub merged : List Record
-  pub same : IsPermutation records merged
-  pub image : IsEntryFile (index_kinds plan.table plan.spec) merged packed.image
+  pub image : IsEntryFile (index_kinds plan.table plan.spec) records packed.image
   pub pairs : packed.pairs ≡ length records

@@ -1,32 +1,14 @@
-//! How the entries of a GIN index become its file (`ginbuild` of `gininsert.c`).
+//! How many records the entries of a GIN index have.
 
-ghost use Rattle.std.specs.Prelude.{◌≡◌, ◌+◌, ◌<◌, ◌≤◌, IfOk, MatchOption, length};
+ghost use Rattle.std.specs.Prelude.{◌≡◌, ◌+◌, ◌<◌, ◌≤◌, MatchOption, length};
 ghost use Rattle.shared_tape.specs.Runs.{record_count};
 ghost use Rattle.run_merge.specs.Sorted.{all_records};
-ghost use Rattle.build_leader.specs.Gin.{CountsRecords, IsEntryFile, IsEntryMerge, most_records};
+ghost use Rattle.build_leader.specs.Gin.{CountsRecords, most_records};
 
-use gin_pack::pack;
-use opclass::Kinds;
-use pg_bytes::IndexImage;
-use run_merge::Merged;
 use shared_tape::{Tape, Tapes};
-use std::alloc::{AllocError, Global};
 
 /// How many records a file has fewer than: the packer numbers no more.
 const MOST_RECORDS: u32 = 1 << 30;
-
-/// The file of the entries that a merge gives, of an index over one column of arrays. An error
-/// means that no memory was left, or that the file would have more than 2^30 blocks.
-pub(crate) fn pack_entries(
-    alloc: Global,
-    kinds: &Kinds,
-    merged: Merged,
-) -> Result<IndexImage, AllocError>
-    requires { IsEntryMerge kinds.now merged }
-    ensures { IfOk result (IsEntryFile kinds.now merged.left) }
-{
-    pack(alloc, *kinds.get(0), merged)
-}
 
 /// How many records tapes have, or None where one file can't have so many.
 pub(crate) fn count_records(tapes: &Tapes) -> Option<u32>

@@ -6,9 +6,11 @@
 //! together. `_brin_parallel_merge` of `brin.c` sorts no rows: each worker has a summary of each
 //! range of which it had rows, and the leader unites what they have, range by range. Here rows and
 //! entries stand in sorted runs on the workers' tapes, and each goes from the merge straight into
-//! the packer: no list of rows stands between them. A leader alone merges all runs at once. With
-//! workers, as many threads merge a range of the keys each, and what they give is packed range by
-//! range.
+//! the packer: no list of rows stands between them. That is how a leader alone packs. With workers
+//! the order is cut into as many parts, between keys, so that rows of equal keys stand in one part.
+//! A thread for each merges its records and makes of them what needs nothing of the other parts
+//! (`key_parts`): the leaf tuples of a B-tree, with the separator that each has from the one before
+//! it, or the postings of a GIN index. The leader lays these on pages, part by part.
 //!
 //! The leader and its workers scan side by side (`_bt_begin_parallel` of `nbtsort.c`): a thread
 //! for each seat, as far as threads can be made, of which the leader's is the caller's own. Each
@@ -36,7 +38,8 @@
 //! meets equal keys side by side (`comparetup_index_btree` of `tuplesortvariants.c`). Here a row
 //! is held back until the next one comes, and put once the two are compared. That is enough: rows
 //! that clash have equal keys, and in the order of the index whatever stands between equal keys
-//! equals them, so that two rows clash somewhere exactly where two neighbours do.
+//! equals them, so that two rows clash somewhere exactly where two neighbours do. They stand in one
+//! part, and the first part that has a clash tells it.
 //!
 //! The invariant of the pass: the rows that were put and the one that is held back are the first
 //! in the order of all, and no neighbours among them clash where the index is unique.
@@ -77,11 +80,13 @@ mod entry_laws;
 mod fault;
 mod gate;
 mod gin;
+mod key_parts;
 mod laws;
 mod leader;
-mod merging;
+mod leaf_parts;
 mod packing;
 mod plan;
+mod posting_parts;
 mod ranges;
 mod refill;
 mod row_reader;

@@ -1,16 +1,14 @@
 //! What workers have of a heap's rows becomes the file of an index, by its method.
 
 ghost use Rattle.std.specs.Prelude.{◌≡◌, ◌<◌, ◌≤◌, ◌^◌, ℕ, All, IfErr, IfOk, length};
-ghost use Rattle.std.specs.List.Sorted.{IsPermutation};
 ghost use Rattle.brin_summary.specs.Answer.{tuple_size};
 ghost use Rattle.gin_entry.specs.EntryOrder.{entry_order};
 ghost use Rattle.shared_tape.specs.Stored.{IsStorable};
-ghost use Rattle.run_merge.specs.Merging.{Merging};
 ghost use Rattle.run_merge.specs.Sorted.{AllHaveOrder, all_records};
 ghost use Rattle.btree_pack.specs.Pass.Put.{AreColumnsOf};
 ghost use Rattle.build_leader.specs.Blocks.{IsWhole, block_count, most_blocks};
 ghost use Rattle.build_leader.specs.Calls.{IsLeadFault, IsPlan};
-ghost use Rattle.build_leader.specs.Gin.{IsEntryMerge, most_records};
+ghost use Rattle.build_leader.specs.Gin.{AreEntries, most_records};
 ghost use Rattle.build_leader.specs.Holding.{all_ranges};
 ghost use Rattle.build_leader.specs.IndexRow.{index_kinds};
 ghost use Rattle.build_leader.specs.Outcome.{order_of_index};
@@ -22,10 +20,10 @@ ghost use Rattle.build_leader.specs.Tally.{AreOfColumns};
 use crate::brin::{count_ranges, pack_ranges};
 use crate::columns::{kinds_of, order_of};
 use crate::fault::LeadFault;
-use crate::gin::{count_records, pack_entries};
-use crate::merging::merge_tapes;
-use crate::packing::pack;
+use crate::gin::count_records;
+use crate::leaf_parts::pack_tapes;
 use crate::plan::Plan;
+use crate::posting_parts::pack_entries;
 use crate::ranges::RangeParts;
 use opclass::Method;
 use pg_bytes::{IndexImage, PAGE};
@@ -95,10 +93,8 @@ fn pack_rows<Rt: Threads + Sync>(
         (all_records tapes)) }
 {
     let order = order_of(alloc, &plan.spec)?;
-    let kinds = kinds_of(alloc, &plan.table, &plan.spec)?;
-    let merged = merge_tapes(rt, alloc, tapes, plan.workers + 1, order)?;
     Ok(Packed {
-        image: pack(alloc, &plan.spec, kinds, merged)?,
+        image: pack_tapes(rt, alloc, plan, &tapes, &order)?,
         pairs: rows,
     })
 }
@@ -139,9 +135,8 @@ fn pack_postings<Rt: Threads + Sync>(
     requires workers { plan.now.workers ≤ 31 }
     requires order { AllHaveOrder entry_order tapes }
     requires storable { All (IsStorable entry_order) (all_records tapes) }
-    requires entries { (merged : Merging) → merged.order ≡ entry_order
-        → IsPermutation (all_records tapes) merged.left → length merged.left < most_records
-        → IsEntryMerge (index_kinds plan.now.table plan.now.spec) merged }
+    requires entries { length (all_records tapes) < most_records
+        → AreEntries (index_kinds plan.now.table plan.now.spec) entry_order (all_records tapes) }
     ensures image { IfOk result (AreEntriesPacked plan.now (all_records tapes)) }
     ensures refused { IfErr result (λ fault. fault ≡ LeadFault.Memory) }
 {
@@ -150,9 +145,8 @@ fn pack_postings<Rt: Threads + Sync>(
     };
     let order = order_of_entries(alloc)?;
     let kinds = kinds_of(alloc, &plan.table, &plan.spec)?;
-    let merged = merge_tapes(rt, alloc, tapes, plan.workers + 1, order)?;
     Ok(Packed {
-        image: pack_entries(alloc, &kinds, merged)?,
+        image: pack_entries(rt, alloc, plan.workers, &kinds, tapes, order)?,
         pairs: u64::from(pairs),
     })
 }

@@ -355,3 +355,51 @@ fn a_row_may_have_very_many_elements(rt: HostRuntime) -> Result<(), Fail> {
     assert_eq!(&rt; lacks_at(&index, &OF_1000_NUMBERS), None);
     Ok(())
 }
+
+// Rows on so many pages that have the same 500 numbers.
+fn equal_rows(alloc: Global, count: u16) -> Result<Vec<u8>, AllocError> {
+    let mut pages = Vec::new(alloc);
+    for _ in 0..count {
+        pages.push(countdown(alloc, 500)?)?;
+    }
+    heap_of(alloc, &pages, 0)
+}
+
+// That each manner builds the bytes that the leader builds alone.
+fn assert_same_bytes<R: Threads + Sync + Abort>(
+    rt: &R,
+    alloc: Global,
+    name: &str,
+    of: Command,
+    heap: &[u8],
+    rows: u64,
+) -> Result<(), AllocError> {
+    let alone = Command {
+        options: &["--workers=0"],
+        ..of
+    };
+    let want = index_built_by(rt, alloc, "gin", name, &alone, heap, rows)?;
+    for options in MANNERS {
+        let command = Command { options, ..of };
+        let index = index_built_by(rt, alloc, "gin", name, &command, heap, rows)?;
+        assert!(rt; index == want, "{name}");
+    }
+    Ok(())
+}
+
+// Some threads have no entry, others the list or the tree of one, or many entries.
+#[test]
+fn parts_of_the_entries_make_the_same_bytes(rt: HostRuntime) -> Result<(), Fail> {
+    let alloc = rt.alloc();
+    let list = ones(alloc, 300)?;
+    assert_same_bytes(&rt, alloc, "a list", OF_INT4, &list, 300)?;
+    let tree = ones(alloc, 3000)?;
+    assert_same_bytes(&rt, alloc, "a tree", OF_INT4, &tree, 3000)?;
+    let lists = equal_rows(alloc, 8)?;
+    assert_same_bytes(&rt, alloc, "many lists", OF_INT4, &lists, 8)?;
+    let texts = letters(alloc, 10)?;
+    assert_same_bytes(&rt, alloc, "texts", OF_TEXT, &texts, 10)?;
+    let tree = text_page(alloc, b'x', 2700)?;
+    assert_same_bytes(&rt, alloc, "a text with a tree", OF_TEXT, &tree, 1)?;
+    Ok(())
+}

@@ -3,10 +3,12 @@ use Rattle.build_leader.specs.Pass.{AreComing}
 use Rattle.build_leader.proofs.packing.put_rows.Given as goal
 
 abbrev pub invariant-rows : goal.invariant-rows
-invariant-rows l = record {
-  order : l.merged.order ≡ l.fn.merged.order;
-  coming : AreComing l.spec l.fn.packer.rows.kinds l.fn.merged.order l.fn.merged.left l.merged.left l.packer l.held;
+invariant-rows g l = record {
+  order : l.merge.order ≡ l.fn.merge.order;
+  coming :
+      AreComing g.P.RowPacker.has l.spec (g.P.RowPacker.kinds l.fn.packer) l.fn.merge.order l.fn.merge.left l.merge.left
+      l.packer l.held;
 }
 
 abbrev pub decreases-rows : goal.decreases-rows
-decreases-rows l = length l.merged.left
+decreases-rows g l = length l.merge.left

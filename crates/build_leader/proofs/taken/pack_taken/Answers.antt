@@ -11,7 +11,7 @@ use Rattle.build_leader.specs.Outcome.{order_of_index}
 use Rattle.build_leader.specs.Packing.{AreEntriesPacked, AreSummariesPacked, IsPackedOf, IsRangeFault}
 use Rattle.build_leader.specs.Pass.{IsPackFault, IsPackedFile}
 use Rattle.build_leader.proofs.Finishing.{err_then}
-use Rattle.build_leader.proofs.Packed.{both_ok, entries_merge, entries_packed, entry_fault, range_fault, range_kinds, range_sizes, ranges_packed, tree_columns, tree_fault, tree_packed, tree_rows}
+use Rattle.build_leader.proofs.Packed.{both_ok, entries_on_tapes, entries_packed, entry_fault, range_fault, range_kinds, range_sizes, ranges_packed, tree_columns, tree_fault, tree_packed, tree_rows}
 use Rattle.build_leader.proofs.taken.pack_taken.Goals as goal
 
 pub pack_rows-requires-clause-columns : goal.pack_rows-requires-clause-columns
@@ -70,7 +70,7 @@ returns-in-Brin-clause-refused g c =
 
 pub pack_postings-requires-clause-entries : goal.pack_postings-requires-clause-entries
 pack_postings-requires-clause-entries g c κs within =
-    entries_merge c.args.plan.now c.args.heap.now c.args.tapes c.args.ranges c.args.rows c.requires.plan c.requires.rows c.in-Gin.is
+    entries_on_tapes c.args.plan.now c.args.heap.now c.args.tapes c.args.ranges c.args.rows c.requires.plan c.requires.rows c.in-Gin.is
 
 pub returns-in-Gin-clause-packed : goal.returns-in-Gin-clause-packed
 returns-in-Gin-clause-packed g c =
