@@ -31,11 +31,13 @@
 //! each of its calls asks the system at all. Nothing is synced to the disk. A failure tells of no
 //! cause: an absent file, a folder and a broken disk are one `Failed`. Both objects keep one count
 //! of a kind for all names, so that a failure raises other names' counts too. That two names are
-//! two files is the caller's to know.
+//! two files is the caller's to know. `RealFiles` keeps files open, so one that is replaced under
+//! its name between two calls is the old one to the later call.
 #![tactic(auto)]
 
 mod counted;
 mod files;
+mod kept_file;
 mod mem_files;
 mod named_files;
 mod real_files;

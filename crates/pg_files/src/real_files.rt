@@ -2,6 +2,7 @@ ghost use Rattle.std.specs.Prelude.{◌≡◌, ◌≤◌, length, IfOk};
 
 use crate::counted::counted;
 use crate::files::{Failed, Files};
+use crate::kept_file::{KeptFile, keep, take};
 use crate::whole_io::{fill, write_whole};
 use std::fs::OpenOptions;
 use std::io::{Seek, SeekFrom};
@@ -11,16 +12,19 @@ use std::{fs, io};
 
 /// Real files and standard output, by a runtime. Nothing is told of what they hold, and each kind
 /// of call has one count of its failures, which contracts see. It takes no memory from an
-/// allocator.
+/// allocator. A file that is read or grown in pieces stays open from one call to the next.
 #[derive(Drop)]
-pub struct RealFiles<'a, Rt> {
+pub struct RealFiles<'a, Rt: FileSystem> {
     rt: &'a Rt,
+    // The file that was read last, and the one that was grown last.
+    read: Option<KeptFile<Rt::File>>,
+    grown: Option<KeptFile<Rt::File>>,
     read_faults: u64,
     write_faults: u64,
     say_faults: u64,
 }
 
-impl<'a, Rt> Model for RealFiles<'a, Rt> {
+impl<'a, Rt: FileSystem> Model for RealFiles<'a, Rt> {
     ghost use Rattle.pg_files.specs.Real.{FaultCounts};
 
     ghost Value = { FaultCounts };
@@ -32,7 +36,7 @@ impl<'a, Rt> Model for RealFiles<'a, Rt> {
     } };
 }
 
-impl<'a, Rt> RealFiles<'a, Rt> {
+impl<'a, Rt: FileSystem> RealFiles<'a, Rt> {
     ghost use Rattle.pg_files.specs.Real.{no_faults};
 
     /// The files and the standard output of this runtime, with no failure so far.
@@ -41,6 +45,8 @@ impl<'a, Rt> RealFiles<'a, Rt> {
     {
         RealFiles {
             rt,
+            read: None,
+            grown: None,
             read_faults: 0,
             write_faults: 0,
             say_faults: 0,
@@ -54,15 +60,22 @@ impl<'a, Rt: FileSystem + Print> Files for RealFiles<'a, Rt> {
     ghost outside = { outside_of_counts };
 
     fn read(&mut self, name: &str, at: u64, into: &mut [u8]) -> Result<usize, Failed> {
-        counted(read_file(self.rt, name, at, into), &mut self.read_faults)
+        counted(
+            read_file(self.rt, &mut self.read, name, at, into),
+            &mut self.read_faults,
+        )
     }
 
     fn create(&mut self, name: &str) -> Result<(), Failed> {
+        self.grown = None;
         counted(create_file(self.rt, name), &mut self.write_faults)
     }
 
     fn append(&mut self, name: &str, piece: &[u8]) -> Result<usize, Failed> {
-        counted(append_file(self.rt, name, piece), &mut self.write_faults)
+        counted(
+            append_file(self.rt, &mut self.grown, name, piece),
+            &mut self.write_faults,
+        )
     }
 
     fn say(&mut self, text: &[u8]) -> Result<(), Failed> {
@@ -73,13 +86,25 @@ impl<'a, Rt: FileSystem + Print> Files for RealFiles<'a, Rt> {
     }
 }
 
-// Reads from a place on until the buffer is full or the file ends, and answers how much came.
-fn read_file<Rt: FileSystem>(rt: &Rt, name: &str, at: u64, into: &mut [u8]) -> io::Result<usize>
+// Reads from a place on until the buffer is full or the file ends, and answers how much came. The
+// file is kept, unless reading it failed.
+fn read_file<Rt: FileSystem>(
+    rt: &Rt,
+    kept: &mut Option<KeptFile<Rt::File>>,
+    name: &str,
+    at: u64,
+    into: &mut [u8],
+) -> io::Result<usize>
     ensures { IfOk result (λ count. count ≤ length into.old) }
 {
-    let mut file = fs::open(rt, name)?;
+    let mut file = match take(kept, name) {
+        Some(file) => file,
+        None => fs::open(rt, name)?,
+    };
     file.seek(SeekFrom::Start(at))?;
-    fill(&mut file, into)
+    let count = fill(&mut file, into)?;
+    keep(kept, name, file);
+    Ok(count)
 }
 
 // Makes a file empty, whether it was there or not.
@@ -89,18 +114,32 @@ fn create_file<Rt: FileSystem>(rt: &Rt, name: &str) -> io::Result<()> {
 }
 
 // Adds a whole piece at a file's end, and answers its length. An empty piece opens no file, since
-// that would make one.
-fn append_file<Rt: FileSystem>(rt: &Rt, name: &str, piece: &[u8]) -> io::Result<usize>
+// that would make one. The file is kept, unless writing it failed.
+fn append_file<Rt: FileSystem>(
+    rt: &Rt,
+    kept: &mut Option<KeptFile<Rt::File>>,
+    name: &str,
+    piece: &[u8],
+) -> io::Result<usize>
     ensures { IfOk result (λ count. count ≡ length piece.now) }
 {
     if piece.is_empty() {
         return Ok(0);
     }
+    let mut file = match take(kept, name) {
+        Some(file) => file,
+        None => open_end(rt, name)?,
+    };
+    write_whole(&mut file, piece)?;
+    keep(kept, name, file);
+    Ok(piece.len())
+}
+
+// Opens a file at its end, which is made where there is none.
+fn open_end<Rt: FileSystem>(rt: &Rt, name: &str) -> io::Result<Rt::File> {
     let mut options = OpenOptions::new();
     options.append(true).create(true);
-    let mut file = options.open(rt, name)?;
-    write_whole(&mut file, piece)?;
-    Ok(piece.len())
+    options.open(rt, name)
 }
 
 #[cfg(test)]
@@ -136,6 +175,38 @@ mod tests {
             [0, 0, 0]
         );
 
+        Ok(())
+    }
+
+    // Calls for two files in turn, and for one that was made anew, reach the file that they name.
+    #[test]
+    fn keeps_files_apart(rt: HostRuntime) -> Result<(), Fail> {
+        let names = ["pg_files_one.tmp", "pg_files_other.tmp"];
+        let mut files = RealFiles::new(&rt);
+        for name in names {
+            files.create(name)?;
+        }
+        for piece in [b"first, ".as_slice(), b"second"] {
+            for name in names {
+                files.append(name, piece)?;
+                files.append(name, &name.as_bytes()[9..12])?;
+            }
+        }
+        let mut buffer = [0; 32];
+        for (name, want) in [
+            (names[1], b"first, othsecondoth".as_slice()),
+            (names[0], b"first, onesecondone".as_slice()),
+        ] {
+            let count = files.read(name, 0, &mut buffer)?;
+            assert_eq!(rt; &buffer[..count], want, "{name}");
+            fs::remove_file(&rt, name)?;
+            files.create(name)?;
+            files.append(name, b"anew")?;
+            let mut anew = RealFiles::new(&rt);
+            let count = anew.read(name, 0, &mut buffer)?;
+            assert_eq!(rt; &buffer[..count], b"anew".as_slice(), "{name}");
+            fs::remove_file(&rt, name)?;
+        }
         Ok(())
     }
 
