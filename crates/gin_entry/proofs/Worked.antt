@@ -2,11 +2,13 @@
 use Rattle.std.proofs.Common.{◌≡◌, pos, negsuc, [], ◌∷◌, refl}
 use Rattle.pg_bytes.specs.Numbers.{number_bytes}
 use Rattle.pg_bytes.specs.Places.{zeros}
+use Rattle.opclass.specs.Norm.{norm_of}
 use Rattle.opclass.specs.declared.types.ColType.TheVariants.{Int4Array}
 use Rattle.opclass.specs.declared.value.Elem.TheVariants as elem
 use Rattle.opclass.specs.declared.value.KeyVal.TheVariants.{Nil, Num, Raw, Items}
 use Rattle.gin_entry.specs.declared.entry.Category.TheVariants.{NullKey}
 use Rattle.gin_entry.specs.Entries.{entries, key_entry, placeholder}
+use Rattle.gin_entry.specs.EntryOrder.{columns_of, entry_order}
 use Rattle.gin_entry.specs.EntrySize.{entry_size, list_place}
 
 -- {5,5,1}
@@ -41,3 +43,11 @@ of_number = refl
 -- that of a null element, whose list begins at 18
 of_null : list_place Int4Array (placeholder NullKey) ≡ 18
 of_null = refl
+
+-- the normalised key of a number's entry: 10 bytes, and so 16 with the six of a row pointer behind it
+number_norm : norm_of entry_order (columns_of (key_entry (Num (pos 1)))) ≡ 0 ∷ 1 ∷ 128 ∷ 0 ∷ 0 ∷ 0 ∷ 0 ∷ 0 ∷ 0 ∷ 1 ∷ []
+number_norm = refl
+
+-- that of a null element, which stands behind all keys
+null_norm : norm_of entry_order (columns_of (placeholder NullKey)) ≡ 1 ∷ 128 ∷ 0 ∷ 0 ∷ 0 ∷ 0 ∷ 0 ∷ 0 ∷ 1 ∷ 3 ∷ []
+null_norm = refl

@@ -12,7 +12,8 @@
 //! ascending list (`entries_are_determined`, `map_is_determined`).
 //!
 //! A sort of entries is one of two columns, the category and the key (`columns_of`), which compare
-//! as the entries do (`columns_compare_as_entries`).
+//! as the entries do (`columns_compare_as_entries`). The category of a key is a null there, so that
+//! it takes one byte where a number takes nine: most entries are keys.
 //!
 //! # What it promises
 //!
