@@ -1,5 +1,5 @@
 -- A run takes the entries of the values that columns have.
-use Rattle.std.proofs.Common.{◌≡◌, ℕ, ◌+◌, ◌^◌, ◌<◌, pos, true, List, [], ◌∷◌, map, refl, arith, FitsSigned, w64}
+use Rattle.std.proofs.Common.{◌≡◌, ℕ, zero, suc, ◌+◌, ◌^◌, ◌<◌, ◌≤◌, pos, true, List, [], ◌∷◌, map, refl, arith, FitsSigned, w64}
 use Rattle.std.specs.Prelude.{All}
 use Rattle.std.proofs.lemmas.Int.{ints}
 use Rattle.std.proofs.lemmas.List.Elements.{All-cons, All-head, All-map, All-nil, All-tail}
@@ -22,7 +22,7 @@ use Rattle.gin_entry.specs.declared.entry.Category.{Category}
 use Rattle.gin_entry.specs.declared.entry.Category.TheVariants.{Key, NullKey, EmptyItem, NullItem}
 use Rattle.gin_entry.specs.declared.entry.Entry.{Entry}
 use Rattle.gin_entry.specs.Entries.{distinct, entry_of, placeholder}
-use Rattle.gin_entry.specs.EntryOrder.{entry_order}
+use Rattle.gin_entry.specs.EntryOrder.{category_column, entry_order}
 use Rattle.shared_tape.specs.Laws.{value_room}
 use Rattle.shared_tape.specs.Stored.{IsPointer, IsStorable}
 use Rattle.shared_tape.proofs.Lengths.{stored_short}
@@ -33,16 +33,22 @@ use Rattle.spool.specs.Laws.{HasShortElements, IsShort}
 small : (n : ℕ) → n < 4 → FitsSigned w64 (pos n)
 small n few = record { sfits = omega (arith, ints, few) }
 
+-- the column of a small category is a value of a key column, and takes no more room than a number
+column_is : (category : ℕ) → category < 4 → IsKeyValue (category_column category) × (value_room (category_column category) ≤ value_room (Num (pos 0)))
+column_is zero few = (tt, omega arith)
+column_is (suc number) few = (small (suc number) few, omega arith)
+
 -- the record of an entry whose category is small and whose key is a short key value
 entry_storable : (ptr : RowPtr) (entry : Entry) → IsPointer ptr → entry.category < 4 → IsKeyValue entry.key → value_room entry.key < 2 ^ 31 + 4
     → IsStorable entry_order (entry_record ptr entry)
 entry_storable ptr entry pointer category key short =
     let lengths = stored_short entry_order (entry_record ptr entry) in
+    let column = column_is entry.category category in
     record {
       keys = record {
         columns = refl;
         each =
-            All-cons IsKeyValue (Num (pos entry.category)) (entry.key ∷ []) (small entry.category category)
+            All-cons IsKeyValue (category_column entry.category) (entry.key ∷ []) column.0
             (All-cons IsKeyValue entry.key [] key (All-nil IsKeyValue));
       };
       extra = All-nil IsKeyValue;
@@ -51,8 +57,9 @@ entry_storable ptr entry pointer category key short =
           omega (
             arith,
             short,
+            column.1,
             lengths.0,
-            sum_by-cons value_room (Num (pos entry.category)) (entry.key ∷ []),
+            sum_by-cons value_room (category_column entry.category) (entry.key ∷ []),
             sum_by-cons value_room entry.key [],
           );
       extra_fits = omega (arith, lengths.1);

@@ -2,7 +2,7 @@ ghost use Rattle.std.specs.Prelude.{◌≡◌, ◌≤◌, ◌∷◌, [], IfOk, M
 ghost use Rattle.std.specs.List.Sorted.{IsPermutation};
 ghost use Rattle.opclass.specs.declared.value.KeyVal.{KeyVal};
 ghost use Rattle.gin_entry.specs.Entries.{entry_of, number_of_category, placeholder};
-ghost use Rattle.gin_entry.specs.EntryOrder.{columns_of, entry_order};
+ghost use Rattle.gin_entry.specs.EntryOrder.{category_column, columns_of, entry_order};
 ghost use Rattle.shared_tape.specs.Runs.{records_of};
 ghost use Rattle.shared_tape.specs.Stored.{IsStorable};
 ghost use Rattle.spool.specs.Spools.{AreBoundedRuns};
@@ -16,7 +16,12 @@ use pg_bytes::{Bytes, Items, RowPtr};
 use shared_tape::{Record, Tape};
 use std::alloc::{AllocError, Global};
 
-const ASCENDING: SortPart = SortPart {
+const BY_CATEGORY: SortPart = SortPart {
+    descending: false,
+    nulls_first: true,
+};
+
+const BY_KEY: SortPart = SortPart {
     descending: false,
     nulls_first: false,
 };
@@ -124,11 +129,11 @@ impl EntrySpool {
     }
 }
 
-/// How entries are sorted: by category and then by key, both ascending with nulls last.
+/// How entries are sorted: by category, where the null of keys comes first, and then by key.
 pub fn order_of_entries(alloc: Global) -> Result<SortSpec, AllocError>
     ensures { IfOk result (λ order. order ≡ entry_order) }
 {
-    Ok(Items::from_vec(vec![in alloc; ASCENDING; 2]?))
+    Ok(Items::from_vec(vec![in alloc; BY_CATEGORY, BY_KEY]?))
 }
 
 // Fills a record's keys with the entry of an element.
@@ -163,11 +168,21 @@ fn fill_with(keys: &mut KeyList, category: Category, key: KeyVal) -> Result<(), 
     ensures { OnOk result
         (keys.new ≡ columns_of (record { category = number_of_category category; key = key })) }
 {
-    let category = KeyVal::Num(i64::from(category.number()));
+    let category = category_column(category);
     if keys.push(category).is_err() || keys.push(key).is_err() {
         return Err(AllocError);
     }
     Ok(())
+}
+
+// The column of a category: a null for that of keys, which takes fewer bytes than a number.
+fn category_column(category: Category) -> KeyVal
+    ensures { result ≡ category_column (number_of_category category) }
+{
+    match category {
+        Category::Key => KeyVal::Nil,
+        other => KeyVal::Num(i64::from(other.number())),
+    }
 }
 
 // Bytes as they stand, in the memory of a key that is no longer needed.

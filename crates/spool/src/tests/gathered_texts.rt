@@ -52,7 +52,7 @@ fn gathered(alloc: Global, value: &KeyVal) -> Result<Tape, AllocError>
 fn is_wanted(row: &Record, wanted: Given) -> bool {
     match (row.keys.as_slice(), wanted) {
         ([KeyVal::Num(1), KeyVal::Nil], None) => true,
-        ([KeyVal::Num(0), KeyVal::Raw(bytes)], Some(text)) => bytes.as_slice() == text.as_slice(),
+        ([KeyVal::Nil, KeyVal::Raw(bytes)], Some(text)) => bytes.as_slice() == text.as_slice(),
         _ => false,
     }
 }

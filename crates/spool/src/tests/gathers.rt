@@ -14,8 +14,8 @@ use std::test::Fail;
 // A row: its offset, and its array, or None for a null. Elements are numbers, or None for a null.
 type Row = (u16, Option<&'static [Option<i64>]>);
 
-// A record: its category, its key or None, and its offset.
-type Wanted = (i64, Option<i64>, u16);
+// A record: its category and its key, None for a null, and its offset.
+type Wanted = (Option<i64>, Option<i64>, u16);
 
 fn number(given: Option<i64>) -> Elem
     ensures typed { IsElementOf Int8 result }
@@ -55,17 +55,23 @@ fn put(gather: &mut Gather, value: &KeyVal, offset: u16) -> Result<(), AllocErro
     gather.put(value, RowPtr { block: 0, offset })
 }
 
-fn is_wanted(row: &Record, wanted: Wanted) -> bool {
-    let (category, key, offset) = wanted;
-    let [KeyVal::Num(first), second] = row.keys.as_slice() else {
-        return false;
-    };
-    let same = match (second, key) {
+fn is_value(value: &KeyVal, wanted: Option<i64>) -> bool {
+    match (value, wanted) {
         (KeyVal::Nil, None) => true,
         (KeyVal::Num(number), Some(wanted)) => *number == wanted,
         _ => false,
+    }
+}
+
+fn is_wanted(row: &Record, wanted: Wanted) -> bool {
+    let (category, key, offset) = wanted;
+    let [first, second] = row.keys.as_slice() else {
+        return false;
     };
-    *first == category && same && row.extra.len() == 0 && row.ptr.offset == offset
+    is_value(first, category)
+        && is_value(second, key)
+        && row.extra.len() == 0
+        && row.ptr.offset == offset
 }
 
 fn assert_run(rt: &impl Abort, run: &mut Run, wanted: &[Wanted]) -> Result<(), Fail> {
@@ -109,27 +115,27 @@ const ROWS: [Row; 4] = [
 ];
 
 const IN_ONE_RUN: [&[Wanted]; 1] = [&[
-    (0, Some(1), 1),
-    (0, Some(1), 4),
-    (0, Some(5), 1),
-    (1, None, 4),
-    (2, None, 2),
-    (3, None, 3),
+    (None, Some(1), 1),
+    (None, Some(1), 4),
+    (None, Some(5), 1),
+    (Some(1), None, 4),
+    (Some(2), None, 2),
+    (Some(3), None, 3),
 ]];
 
 const IN_RUNS_OF_TWO: [&[Wanted]; 3] = [
-    &[(0, Some(1), 1), (0, Some(5), 1)],
-    &[(2, None, 2), (3, None, 3)],
-    &[(0, Some(1), 4), (1, None, 4)],
+    &[(None, Some(1), 1), (None, Some(5), 1)],
+    &[(Some(2), None, 2), (Some(3), None, 3)],
+    &[(None, Some(1), 4), (Some(1), None, 4)],
 ];
 
 const IN_RUNS_OF_ONE: [&[Wanted]; 6] = [
-    &[(0, Some(1), 1)],
-    &[(0, Some(5), 1)],
-    &[(2, None, 2)],
-    &[(3, None, 3)],
-    &[(0, Some(1), 4)],
-    &[(1, None, 4)],
+    &[(None, Some(1), 1)],
+    &[(None, Some(5), 1)],
+    &[(Some(2), None, 2)],
+    &[(Some(3), None, 3)],
+    &[(None, Some(1), 4)],
+    &[(Some(1), None, 4)],
 ];
 
 #[test]
