@@ -16,6 +16,7 @@ use Rattle.opclass.proofs.KeyOrder.{key_cmp_exact}
 use Rattle.gin_entry.specs.declared.entry.Entry.{Entry}
 use Rattle.gin_entry.specs.EntryMap.{Posting}
 use Rattle.gin_entry.specs.EntryOrder.{columns_of, entry_cmp, entry_order}
+use Rattle.gin_entry.proofs.EntryOrders.{columns_compare}
 use Rattle.shared_tape.specs.declared.stored.Record.{Record}
 use Rattle.shared_tape.specs.Stored.{record_cmp}
 use Rattle.run_merge.specs.Sorted.{AscendStrictly, row_of}
@@ -26,7 +27,7 @@ use Rattle.gin_pack.specs.Pass.Adding.{Adds, CanAdd, HasAdded, IsAdding}
 use Rattle.gin_pack.specs.Pass.Storing.{HasStored, IsStoring, StoresAll}
 use Rattle.gin_pack.specs.declared.packer.EntryPacker.{EntryPacker}
 use Rattle.gin_pack.proofs.Packing.{few-pointers, file-of, listed}
-use Rattle.gin_pack.proofs.Telling.{back-of, columns-compare, front-of, map-of-all, none-told, then-less, weaker}
+use Rattle.gin_pack.proofs.Telling.{back-of, front-of, map-of-all, none-told, then-less, weaker}
 
 -- ---- two lists, one behind the other
 
@@ -83,7 +84,7 @@ some-pairs Q kind (posting ∷ postings) told all =
 entries-part : (a b : Entry) (p q : RowPtr) → Parts (columns_of a, p) (columns_of b, q) → entry_cmp a b ≡ Less
 entries-part a b p q parts =
     elim (then-less (key_cmp entry_order (columns_of a) (columns_of b)) (pointer_cmp p q) parts.0) [
-      | inl less ↦ sym (columns-compare a b) ∙ less
+      | inl less ↦ sym (columns_compare a b) ∙ less
       | inr same ↦ absurd (parts.1 (key_cmp_exact entry_order (columns_of a) (columns_of b) same.0))
     ]
 

@@ -1,5 +1,5 @@
 -- How a writer takes a record: its pointer comes to the entry that comes, or begins another.
-use Rattle.std.proofs.Common.{◌≡◌, ◌≢◌, ℕ, List, [], ◌∷◌, ◌++◌, refl, sym, ap, subst, ◌∙◌, inl, inr}
+use Rattle.std.proofs.Common.{◌≡◌, ◌≢◌, List, [], ◌∷◌, ◌++◌, refl, sym, ap, subst, ◌∙◌, inl, inr}
 use Rattle.std.specs.Prelude.{MatchOption, Option, Some, None}
 use Rattle.std.specs.List.{AllByRecursion}
 use Rattle.pg_bytes.specs.declared.row_ptr.RowPtr.{RowPtr}
@@ -7,16 +7,10 @@ use Rattle.opclass.specs.declared.value.KeyVal.{KeyVal}
 use Rattle.gin_entry.specs.declared.entry.Entry.{Entry}
 use Rattle.gin_entry.specs.EntryMap.{Posting}
 use Rattle.gin_entry.specs.EntryOrder.{columns_of}
+use Rattle.gin_entry.proofs.EntryOrders.{same_entry}
 use Rattle.gin_pack.specs.Records.{IsEntry}
 use Rattle.gin_pack.specs.Pass.Gathering.{AreColumns, Closes, HasColumns, IsComing, IsWritten, Takes, with_pointer}
 use Rattle.gin_pack.specs.declared.posting_writer.PostingWriter.{PostingWriter}
-
--- entries of the same columns are the same
-pub same-entry : (a b : Entry) → columns_of a ≡ columns_of b → a ≡ b
-same-entry a b same =
-    let category : a.category ≡ b.category = cc in
-    let key : a.key ≡ b.key = cc in
-    ap (λ (n : ℕ). record { category = n; key = a.key }) category ∙ ap (λ (k : KeyVal). record { category = b.category; key = k }) key
 
 -- the ends of lists that are the same
 pub push-end : {X : Type 0} (xs ys : List X) (x y : X) → xs ++ x ∷ [] ≡ ys ++ y ∷ [] → x ≡ y
@@ -68,7 +62,7 @@ take-joins old new keys pointer is same_done same_pending pushed =
     λ postings entry written columns.
     let coming = comes postings old keys is written in
     let last : Posting = coming.0 in
-    let same : last.entry ≡ entry = same-entry last.entry entry (sym coming.1.columns ∙ columns) in
+    let same : last.entry ≡ entry = same_entry last.entry entry (sym coming.1.columns ∙ columns) in
     let more : List Posting = old.done ++ with_pointer last pointer ∷ [] in (
       more,
       written-coming more new keys (same_pending ∙ is) (

@@ -2,9 +2,7 @@
 use Rattle.std.proofs.Common.{◌≡◌, ◌≢◌, ℕ, ◌^◌, ◌<◌, ◌≤◌, List, [], ◌∷◌, ◌++◌, length, refl, sym, ap, subst, ◌∙◌, arith, inl, inr, length-append, Ordering, Less, Equal, Greater, nat_cmp}
 use Rattle.std.specs.Prelude.{◌⊎◌, Contains, map}
 use Rattle.std.specs.Cmp.{ranks}
-use Rattle.std.specs.Ordering.{MatchOrdering, int_cmp, ordering_then}
-use Rattle.std.specs.Prelude.{pos}
-use Rattle.std.proofs.lemmas.Bool.Decides.{nat_tests}
+use Rattle.std.specs.Ordering.{MatchOrdering, ordering_then}
 use Rattle.std.proofs.lemmas.Cmp.{tied_itself}
 use Rattle.std.specs.List.{AllByRecursion, flat_map}
 use Rattle.std.specs.List.Sorted.{IsPermutation, IsStrictlySortedBy}
@@ -18,12 +16,12 @@ use Rattle.pg_bytes.specs.declared.row_ptr.RowPtr.{RowPtr}
 use Rattle.opclass.specs.declared.types.ColType.{ColType}
 use Rattle.opclass.specs.declared.value.KeyVal.{KeyVal}
 use Rattle.opclass.specs.declared.spec.SortPart.{SortPart}
-use Rattle.opclass.specs.Order.{column_cmp, key_cmp, pointer_cmp, row_cmp, unsaid}
-use Rattle.opclass.proofs.KeyOrder.{key_cmp_exact, then-Equal}
+use Rattle.opclass.specs.Order.{key_cmp, pointer_cmp, row_cmp}
+use Rattle.opclass.proofs.KeyOrder.{key_cmp_exact}
 use Rattle.gin_entry.specs.declared.entry.Entry.{Entry}
 use Rattle.gin_entry.specs.EntryMap.{HasPosting, IsMapOf, IsPostingList, Posting}
 use Rattle.gin_entry.specs.EntryOrder.{columns_of, entry_cmp, entry_order}
-use Rattle.gin_entry.proofs.EntryOrders.{entry_cmp_total}
+use Rattle.gin_entry.proofs.EntryOrders.{columns_compare, entry_cmp_total, same_entry}
 use Rattle.gin_entry.proofs.Members.{Any-from, Any-from_map, Contains-cases, Contains-head, Contains-map, Contains-behind, Contains-nil}
 use Rattle.shared_tape.specs.declared.stored.Record.{Record}
 use Rattle.shared_tape.specs.Stored.{record_cmp}
@@ -38,7 +36,6 @@ use Rattle.gin_pack.specs.Records.{IsEntryRecord}
 use Rattle.gin_pack.specs.Postings.{ArePostingsOf, IsListed, IsTold, pairs_of}
 use Rattle.gin_pack.specs.Pass.Gathering.{Begins, Joins, with_pointer}
 use Rattle.gin_pack.proofs.Places.{all-push}
-use Rattle.gin_pack.proofs.Takings.{same-entry}
 
 -- ---- orders
 
@@ -47,15 +44,6 @@ pub then-less : (o p : Ordering) → ordering_then o p ≡ Less → (o ≡ Less)
 then-less Less p is = inl refl
 then-less Equal p is = inr (refl, is)
 then-less Greater p is = absurd cc
-
-numbers-compare : (m n : ℕ) → int_cmp (pos m) (pos n) ≡ nat_cmp m n
-numbers-compare m n = grind (arith, nat_tests)
-
--- the columns of two entries compare as the entries
-pub columns-compare : (a b : Entry) → key_cmp entry_order (columns_of a) (columns_of b) ≡ entry_cmp a b
-columns-compare a b =
-    ap (λ (o : Ordering). ordering_then o (ordering_then (column_cmp unsaid a.key b.key) Equal)) (numbers-compare a.category b.category)
-    ∙ ap (ordering_then (nat_cmp a.category b.category)) (then-Equal (column_cmp unsaid a.key b.key))
 
 below : (m n : ℕ) → nat_cmp m n ≡ Less → m < n
 below m n is = subst (λ (o : Ordering). MatchOrdering o (m < n) (m ≡ n) (n < m)) is (ranks m n)
@@ -134,7 +122,7 @@ pointers-below : (entry : Entry) (pointers : List RowPtr) (pointer : RowPtr)
 pointers-below entry [] pointer all = tt
 pointers-below entry (p ∷ pointers) pointer all = (
   elim (then-less (key_cmp entry_order (columns_of entry) (columns_of entry)) (pointer_cmp p pointer) all.0) [
-    | inl less ↦ absurd (not-itself entry (sym (columns-compare entry entry) ∙ less))
+    | inl less ↦ absurd (not-itself entry (sym (columns_compare entry entry) ∙ less))
     | inr same ↦ same.1
   ],
   pointers-below entry pointers pointer all.1,
@@ -153,8 +141,8 @@ entry-below posting entry pointer some other all = by posting.pointers some all
     by [] some all = absurd (omega arith)
     by (p ∷ pointers) some all =
         elim (then-less (key_cmp entry_order (columns_of posting.entry) (columns_of entry)) (pointer_cmp p pointer) all.0) [
-          | inl less ↦ sym (columns-compare posting.entry entry) ∙ less
-          | inr same ↦ absurd (other (same-entry posting.entry entry (key_cmp_exact entry_order (columns_of posting.entry) (columns_of entry) same.0)))
+          | inl less ↦ sym (columns_compare posting.entry entry) ∙ less
+          | inr same ↦ absurd (other (same_entry posting.entry entry (key_cmp_exact entry_order (columns_of posting.entry) (columns_of entry) same.0)))
         ]
 
 -- the pairs of postings, and of one more
@@ -256,7 +244,7 @@ pub begun-told : (kind : ColType) (came : List Record) (old new : List Posting) 
     → Begins old new entry row.ptr → ArePostingsOf kind (came ++ row ∷ []) new
 begun-told kind came old new row entry keys is told less begins =
     let first : Posting = record { entry = entry; pointers = row.ptr ∷ [] } in
-    let same : is.entry ≡ entry = same-entry is.entry entry (sym is.keys ∙ keys) in
+    let same : is.entry ≡ entry = same_entry is.entry entry (sym is.keys ∙ keys) in
     let good : IsListed kind (record { entry = is.entry; pointers = row.ptr ∷ [] }) = record {
       is_entry = is.is_entry;
       small = is.small;
@@ -291,7 +279,7 @@ pair-told (posting ∷ postings) entry pointer there =
     elim (Contains-append_cases (pairs_of posting) (flat_map pairs_of postings) (columns_of entry, pointer) cut) [
       | inl here ↦
           let some = Any-from_map (λ (p : RowPtr). (columns_of posting.entry, p)) posting.pointers (columns_of entry, pointer) here in
-          let entries : posting.entry ≡ entry = same-entry posting.entry entry (ap (λ (p : List KeyVal × RowPtr). p.0) (sym some.4)) in
+          let entries : posting.entry ≡ entry = same_entry posting.entry entry (ap (λ (p : List KeyVal × RowPtr). p.0) (sym some.4)) in
           let pointers : some.1 ≡ pointer = ap (λ (p : List KeyVal × RowPtr). p.1) (sym some.4) in
           Any-from (λ (p : Posting). (p.entry ≡ entry) × Contains p.pointers pointer) (posting ∷ postings) posting (Contains-head posting postings)
           (entries, subst (Contains posting.pointers) pointers (some.0, some.2, some.3))

@@ -1,14 +1,14 @@
-ghost use Rattle.std.specs.Prelude.{◌≡◌, ◌≢◌, ◌↔◌, [], IfOk, IsTrue, OnOk, Some, List};
+ghost use Rattle.std.specs.Prelude.{◌≡◌, ◌≢◌, ◌<◌, ◌↔◌, ℕ, [], IfOk, IsTrue, OnOk, Some, List};
 ghost use Rattle.opclass.specs.declared.types.ColType.{ColType};
 ghost use Rattle.gin_entry.specs.declared.entry.Entry.{Entry};
 ghost use Rattle.gin_entry.specs.EntryMap.{Posting};
-ghost use Rattle.gin_entry.specs.EntryOrder.{columns_of};
+ghost use Rattle.gin_entry.specs.EntryOrder.{category_column, columns_of};
 ghost use Rattle.shared_tape.specs.declared.stored.Record.{Record};
 ghost use Rattle.gin_pack.specs.Postings.{ArePostingsOf};
 ghost use Rattle.gin_pack.specs.Pass.Gathering.{AreColumns, Closes, Gathers, HasColumns, HasGathered, IsGathering, IsWritten, Takes};
 
 use crate::posting_run::PostingRun;
-use gin_entry::Entry;
+use gin_entry::{Category, Entry};
 use opclass::{KeyList, KeyVal, clash};
 use pg_bytes::RowPtr;
 use shared_tape::Record;
@@ -122,11 +122,23 @@ fn entry_of(keys: &mut KeyList) -> Entry
     let Some(key) = keys.pop() else {
         unreachable!();
     };
-    let Some(KeyVal::Num(category)) = keys.pop() else {
+    let Some(column) = keys.pop() else {
         unreachable!();
     };
     Entry {
-        category: category as u8,
+        category: category_of(&column),
         key,
+    }
+}
+
+// The category that has this column: a null is that of keys.
+fn category_of(column: &KeyVal) -> u8
+    requires { (category : ℕ) × (column.now ≡ category_column category) × (category < 4) }
+    ensures { (category : ℕ) → column.now ≡ category_column category → result ≡ category }
+{
+    match column {
+        KeyVal::Nil => Category::Key.number(),
+        KeyVal::Num(number) => *number as u8,
+        _ => unreachable!(),
     }
 }
