@@ -34,7 +34,7 @@ use Rattle.gin_entry.specs.declared.entry.Entry.{Entry}
 use Rattle.gin_entry.specs.Entries.{HasEntry, entries}
 use Rattle.gin_entry.specs.EntryOrder.{entry_cmp, entry_order}
 use Rattle.gin_entry.specs.EntrySize.{entry_size}
-use Rattle.gin_entry.proofs.EntryOrders.{entry_cmp_total}
+use Rattle.gin_entry.proofs.EntryOrders.{entry_cmp_total, same_entry}
 use Rattle.gin_entry.proofs.Exact.{entries_exact}
 use Rattle.posting_tree.specs.Segments.{IsStorable}
 use Rattle.shared_tape.specs.declared.stored.Record.{Record}
@@ -46,7 +46,6 @@ use Rattle.run_merge.specs.Sorted.{AreApart, row_of}
 use Rattle.run_merge.proofs.Sorting.{Pairs, Pairs-from, Pairs-moved, Pairs-to}
 use Rattle.gin_pack.specs.EntryTuple.{most_size}
 use Rattle.gin_pack.specs.Records.{IsEntry, IsEntryRecord}
-use Rattle.gin_pack.proofs.Takings.{same-entry}
 use Rattle.build_leader.specs.Blocks.{IsWhole, block_count, most_blocks, page_of}
 use Rattle.build_leader.specs.Entries.{HasWideEntry, array_of, row_entries, rows_entries}
 use Rattle.build_leader.specs.HeapRows.{AreBlockRows, AreHeapRows, AreRowsOfBlocks, HasSoundBlocks, IsSoundBlock}
@@ -113,7 +112,7 @@ unlike_entries ptr (entry ∷ list) up = (
       (All-weaker (λ other. entry_cmp entry other ≡ Less)
       (λ other. Unlike (entry_record ptr entry) (entry_record ptr other))
       (λ other below same.
-      let one : entry ≡ other = same-entry entry other (ap (λ pair. pair.0) same) in
+      let one : entry ≡ other = same_entry entry other (ap (λ pair. pair.0) same) in
       let level : entry_cmp entry other ≡ Equal =
       subst (λ e. entry_cmp entry e ≡ Equal) one (tied_itself entry_cmp_total entry) in
       cc)

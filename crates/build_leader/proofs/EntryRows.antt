@@ -13,13 +13,13 @@ use Rattle.gin_entry.specs.declared.entry.Entry.{Entry}
 use Rattle.gin_entry.specs.Entries.{HasEntry, entries}
 use Rattle.gin_entry.specs.EntryMap.{ArrayRow, IsGinMap, IsMapOf, LeadsTo, Posting}
 use Rattle.gin_entry.specs.EntryOrder.{columns_of}
+use Rattle.gin_entry.proofs.EntryOrders.{same_entry}
 use Rattle.gin_entry.proofs.Exact.{entries_exact}
 use Rattle.gin_entry.proofs.Members.{Any-from, Any-from_map, Contains-behind, Contains-cases, Contains-head, Contains-map, Contains-nil}
 use Rattle.shared_tape.specs.declared.stored.Record.{Record}
 use Rattle.spool.specs.Gathers.{entry_record}
 use Rattle.run_merge.proofs.Moves.{IsPermutation-flat_map}
 use Rattle.gin_pack.specs.File.{Leads}
-use Rattle.gin_pack.proofs.Takings.{same-entry}
 use Rattle.build_leader.specs.Entries.{IsGinIndexOf, array_of, array_row, row_entries, rows_entries}
 use Rattle.build_leader.specs.Gin.{IsEntryFile}
 
@@ -61,7 +61,7 @@ entry_of_record : (value : KeyVal) (ptr : RowPtr) (row : Record) (entry : Entry)
     → Contains (map (entry_record ptr) (entries value)) row → HasEntry value entry × (row.ptr ≡ ptr)
 entry_of_record value ptr row entry keys there =
     let some = Any-from_map (entry_record ptr) (entries value) row there in
-    let same : some.1 ≡ entry = same-entry some.1 entry (sym (ap (λ (r : Record). r.keys) some.4) ∙ keys) in
+    let same : some.1 ≡ entry = same_entry some.1 entry (sym (ap (λ (r : Record). r.keys) some.4) ∙ keys) in
     let has : Contains (entries value) some.1 = (some.0, some.2, some.3) in (
       subst (HasEntry value) same (((entries_exact value).exactly some.1).0 has),
       ap (λ (r : Record). r.ptr) some.4,
