@@ -1,10 +1,11 @@
 -- Runs of leaf tuples come to the leaves.
-use Rattle.std.proofs.Common.{◌≡◌, ℕ, suc, ◌+◌, ◌<◌, ◌≤◌, Bool, false, nat_lt, List, [], ◌∷◌, ◌++◌, length, map, take, drop, get_or, refl, sym, ap, ◌∙◌, subst, arith, append-nil, drop-cons}
+use Rattle.std.proofs.Common.{◌≡◌, ℕ, suc, ◌+◌, ◌-◌, ◌<◌, ◌≤◌, Bool, false, nat_lt, List, [], ◌∷◌, ◌++◌, length, map, take, drop, get_or, refl, sym, ap, ◌∙◌, subst, arith, append-nil}
 use Rattle.std.specs.Prelude.{◌==◌, All, Option, Some, None, MatchOption, IfSome, IsSomeAnd, slice_get, if◌then◌else◌}
 use Rattle.std.specs.List.{common_prefix_len}
 use Rattle.std.specs.Option.{option_or}
+use Rattle.std.proofs.Math.Seq.{take-add}
 use Rattle.std.proofs.lemmas.Bool.Decides.{nat_tests}
-use Rattle.std.proofs.lemmas.List.{length-take-le, take-append-drop}
+use Rattle.std.proofs.lemmas.List.{drop-drop, length-take-le, take-append-drop}
 use Rattle.std.proofs.lemmas.List.Elements.{All-append, All-cons}
 use Rattle.pg_bytes.specs.declared.row_ptr.RowPtr.{RowPtr}
 use Rattle.opclass.specs.declared.spec.IndexSpec.{IndexSpec}
@@ -20,10 +21,12 @@ use Rattle.btree_pack.specs.Leaves.{Content, Images, leaf_item, leaf_items, leaf
 use Rattle.btree_pack.specs.Nodes.{btree_file, shares_tuples}
 use Rattle.btree_pack.specs.Separators.{Separator, greatest_pointer, is_same_value, separator}
 use Rattle.btree_pack.specs.Pass.Added.{Adding, AreRunsReady, HasAdded, HasAddedAll, HasAddedRun, KeepsKeys, keeping, last_key, leaves_came, with_separator}
+use Rattle.btree_pack.specs.Pass.Buffer.{leaves_between, leaves_from}
 use Rattle.btree_pack.specs.Pass.Finish.{IsFileOfThePacked, last_separator}
 use Rattle.btree_pack.specs.Pass.Grouped.{IsGroupOf, separator_image}
 use Rattle.btree_pack.specs.Pass.Packed.{arrived, packed, packed_behind, tuple_came}
-use Rattle.btree_pack.specs.Pass.Packing.{IsHighKey, IsTuple, Packing, breaks_leaf}
+use Rattle.btree_pack.specs.Pass.Joining.{AreJoining, all_added}
+use Rattle.btree_pack.specs.Pass.Packing.{IsHighKey, IsTuple, PageState, Packing, breaks_leaf, high_key_room}
 use Rattle.btree_pack.specs.Pass.Put.{AreColumnsOf}
 use Rattle.btree_pack.specs.Pass.Rows.{alone}
 use Rattle.btree_pack.specs.Pass.Run.{AreLeavesOf, HasLastKeys, IsLeaf, IsOfTheFirst, IsRun, Leaf, RunView, leaf_of}
@@ -31,7 +34,9 @@ use Rattle.btree_pack.specs.Pass.Sight.{fillfactor_of, packing_of}
 use Rattle.btree_pack.specs.Pass.Taken.{LeafIsFirst}
 use Rattle.btree_pack.specs.declared.row_group.RowGroup.{RowGroup}
 use Rattle.btree_pack.proofs.Bringing.{behind_of, leaf-arrived}
+use Rattle.btree_pack.proofs.Joinings.{between-is, came-are-added}
 use Rattle.btree_pack.proofs.LeafBuffer.{of-at}
+use Rattle.btree_pack.proofs.Places.{at-got, some-at}
 use Rattle.btree_pack.proofs.Parting.{groups-begin, groups-end, groups-part, items-part, last_separator-part, leaves-any-moment}
 use Rattle.btree_pack.proofs.Takings.{keep-is, separator-none, tells-keys}
 use Rattle.btree_pack.proofs.Puts.{alone-is, file-of-rows}
@@ -39,15 +44,17 @@ use Rattle.btree_pack.proofs.TupleImages.{separator-tuple}
 
 -- ---- leaf tuples that come
 
-pub came-next : (fillfactor : ℕ) (separator : List ℕ) (packing : Packing) (leaves : List Leaf) (at : ℕ) (d : Leaf) → at < length leaves
-    → leaves_came fillfactor separator packing (drop at leaves)
-    ≡ leaves_came fillfactor (get_or leaves at d).separator (tuple_came fillfactor separator packing (get_or leaves at d).tuple (get_or leaves at d).extra)
-    (drop (suc at) leaves)
-came-next fillfactor separator packing leaves at d inside = ap (leaves_came fillfactor separator packing) (drop-cons leaves at d inside)
+-- some of them, and then others
+pub came-part : (fillfactor : ℕ) (separator : List ℕ) (packing : Packing) (leaves more : List Leaf)
+    → leaves_came fillfactor separator packing (leaves ++ more)
+    ≡ leaves_came fillfactor (last_key separator leaves) (leaves_came fillfactor separator packing leaves) more
+came-part fillfactor separator packing [] more = refl
+came-part fillfactor separator packing (leaf ∷ leaves) more =
+    came-part fillfactor leaf.separator (tuple_came fillfactor separator packing leaf.tuple leaf.extra) leaves more
 
-pub key-next : (separator : List ℕ) (leaves : List Leaf) (at : ℕ) (d : Leaf) → at < length leaves
-    → last_key separator (drop at leaves) ≡ last_key (get_or leaves at d).separator (drop (suc at) leaves)
-key-next separator leaves at d inside = ap (last_key separator) (drop-cons leaves at d inside)
+pub key-part : (separator : List ℕ) (leaves more : List Leaf) → last_key separator (leaves ++ more) ≡ last_key (last_key separator leaves) more
+key-part separator [] more = refl
+key-part separator (leaf ∷ leaves) more = key-part leaf.separator leaves more
 
 -- the separator of a tuple can finish the leaf that it came to
 pub key-came : (fillfactor : ℕ) (separator : List ℕ) (packing : Packing) (leaf : Leaf) (key : List ℕ) → LeafIsFirst packing.pages → IsTuple key
@@ -59,35 +66,100 @@ key-came fillfactor separator packing leaf key first tuple bound =
     let room = came.1 in
     (came.0, record { tuple = tuple; room = omega arith })
 
--- what the leaves have with the tuple of a number
-pub record NextLaid (fillfactor : ℕ) (key : List ℕ) (packing : Packing) (leaves : List Leaf) (at : ℕ) (separator : List ℕ) (now : Packing) : Type 0 where
-  pub laid : leaves_came fillfactor separator now (drop (at + 1) leaves) ≡ leaves_came fillfactor key packing (drop at leaves)
-  pub last : last_key separator (drop (at + 1) leaves) ≡ last_key key (drop at leaves)
+leaf-first : (fillfactor : ℕ) (separator : List ℕ) (packing : Packing) (leaves : List Leaf) → LeafIsFirst packing.pages
+    → LeafIsFirst (leaves_came fillfactor separator packing leaves).pages
+leaf-first fillfactor separator packing [] first = first
+leaf-first fillfactor separator packing (leaf ∷ leaves) first =
+    leaf-first fillfactor leaf.separator (tuple_came fillfactor separator packing leaf.tuple leaf.extra) leaves
+    (leaf-arrived fillfactor (breaks_leaf fillfactor packing (length leaf.tuple)) separator leaf.tuple leaf.extra packing first).0
+
+-- what the leaves have with the tuples from a number up to another
+pub record PageLaid (fillfactor : ℕ) (key : List ℕ) (packing : Packing) (leaves : List Leaf) (first last : ℕ) (separator : List ℕ) (now : Packing) : Type 0 where
+  pub laid : leaves_came fillfactor separator now (drop (last + 1) leaves) ≡ leaves_came fillfactor key packing (drop first leaves)
+  pub last_is : last_key separator (drop (last + 1) leaves) ≡ last_key key (drop first leaves)
   pub leaf : LeafIsFirst now.pages
   pub room : IsHighKey separator now
 
-pub next-laid : (fillfactor : ℕ) (key : List ℕ) (packing : Packing) (leaves : List Leaf) (at : ℕ) (separator tuple : List ℕ) (extra : ℕ) (now : Packing)
-    → at < length leaves → All IsLeaf leaves → LeafIsFirst packing.pages → IfSome (slice_get leaves at) (λ leaf. tuple ≡ leaf.tuple)
-    → IfSome (slice_get leaves at) (λ leaf. extra ≡ leaf.extra) → IfSome (slice_get leaves at) (λ leaf. separator ≡ leaf.separator)
-    → now ≡ tuple_came fillfactor key packing tuple extra → NextLaid fillfactor key packing leaves at separator now
-next-laid fillfactor key packing leaves at separator tuple extra now inside are first t e s made =
+pub page-laid : (fillfactor : ℕ) (key : List ℕ) (packing : Packing) (leaves : List Leaf) (first last : ℕ) (separator : List ℕ) (now : Packing)
+    → first ≤ last → last < length leaves → All IsLeaf leaves → LeafIsFirst packing.pages → IfSome (slice_get leaves last) (λ leaf. separator ≡ leaf.separator)
+    → now ≡ leaves_came fillfactor key packing (leaves_between first last leaves) → PageLaid fillfactor key packing leaves first last separator now
+page-laid fillfactor key packing leaves first last separator now order inside are begin s made =
     let empty : Leaf = record { tuple = []; extra = 0; separator = [] } in
-    let leaf = get_or leaves at empty in
-    let is = are at empty inside in
-    let tuple-is : tuple ≡ leaf.tuple = of-at (λ l. tuple ≡ l.tuple) leaves at empty inside t in
-    let extra-is : extra ≡ leaf.extra = of-at (λ l. extra ≡ l.extra) leaves at empty inside e in
-    let separator-is : separator ≡ leaf.separator = of-at (λ l. separator ≡ l.separator) leaves at empty inside s in
+    let leaf = get_or leaves last empty in
+    let is = are last empty inside in
+    let front = leaves_from first (last - first) leaves in
+    let part = leaves_between first last leaves in
+    let behind = drop (last + 1) leaves in
+    let split : part ≡ front ++ leaf ∷ [] = between-is first last leaves empty order inside in
+    let separator-is : separator ≡ leaf.separator = of-at (λ l. separator ≡ l.separator) leaves last empty inside s in
+    let rest : drop first leaves ≡ part ++ behind =
+    sym (take-append-drop (last - first + 1) (drop first leaves)) ∙ ap (λ l. part ++ l) (drop-drop (last - first + 1) first leaves
+    ∙ ap (λ (n : ℕ). drop n leaves) (let e : first + (last - first + 1) ≡ last + 1 = omega arith in e)) in
+    let ends : last_key key part ≡ separator = ap (last_key key) split ∙ key-part key front (leaf ∷ []) ∙ sym separator-is in
+    let mid = leaves_came fillfactor key packing front in
+    let here : now ≡ tuple_came fillfactor (last_key key front) mid leaf.tuple leaf.extra =
+    made ∙ ap (leaves_came fillfactor key packing) split ∙ came-part fillfactor key packing front (leaf ∷ []) in
+    let came = key-came fillfactor (last_key key front) mid leaf separator (leaf-first fillfactor key packing front begin)
+    (subst IsTuple (sym separator-is) is.separator) (let bound = is.bound in let long = ap length separator-is in omega arith) in
+    record {
+      laid = ap (λ p. leaves_came fillfactor separator p behind) made
+          ∙ ap (λ k. leaves_came fillfactor k (leaves_came fillfactor key packing part) behind) (sym ends)
+          ∙ sym (came-part fillfactor key packing part behind) ∙ ap (leaves_came fillfactor key packing) (sym rest);
+      last_is = ap (λ k. last_key k behind) (sym ends) ∙ sym (key-part key part behind) ∙ ap (last_key key) (sym rest);
+      leaf = subst (λ (p : Packing). LeafIsFirst p.pages) (sym here) came.0;
+      room = subst (IsHighKey separator) (sym here) came.1;
+    }
+
+some-pages : (pages : List PageState) (tuples blocks : ℕ) (image : List ℕ)
+    → 0 < high_key_room (record { pages = pages; tuples = tuples; blocks = blocks; image = image }) → 0 < length pages
+some-pages [] tuples blocks image room = room
+some-pages (page ∷ pages) tuples blocks image room = omega arith
+
+-- the leaves have the tuple of a number
+pub one-came : (fillfactor : ℕ) (key : List ℕ) (packing : Packing) (leaves : List Leaf) (number : ℕ) (tuple : List ℕ) (extra : ℕ) (now : Packing)
+    → number < length leaves → LeafIsFirst packing.pages → IfSome (slice_get leaves number) (λ leaf. tuple ≡ leaf.tuple)
+    → IfSome (slice_get leaves number) (λ leaf. extra ≡ leaf.extra) → now ≡ tuple_came fillfactor key packing tuple extra
+    → (now ≡ leaves_came fillfactor key packing (leaves_between number number leaves)) × (0 < length now.pages)
+one-came fillfactor key packing leaves number tuple extra now inside first t e made =
+    let empty : Leaf = record { tuple = []; extra = 0; separator = [] } in
+    let leaf = get_or leaves number empty in
+    let tuple-is : tuple ≡ leaf.tuple = of-at (λ l. tuple ≡ l.tuple) leaves number empty inside t in
+    let extra-is : extra ≡ leaf.extra = of-at (λ l. extra ≡ l.extra) leaves number empty inside e in
     let here : now ≡ tuple_came fillfactor key packing leaf.tuple leaf.extra =
     made ∙ ap (λ u. tuple_came fillfactor key packing u extra) tuple-is ∙ ap (tuple_came fillfactor key packing leaf.tuple) extra-is in
-    let came = key-came fillfactor key packing leaf leaf.separator first is.separator is.bound in
-    let one : at + 1 ≡ suc at = omega arith in
-    record {
-      laid = ap (λ (n : ℕ). leaves_came fillfactor separator now (drop n leaves)) one ∙ ap (λ k. leaves_came fillfactor k now (drop (suc at) leaves)) separator-is
-          ∙ ap (λ p. leaves_came fillfactor leaf.separator p (drop (suc at) leaves)) here ∙ sym (came-next fillfactor key packing leaves at empty inside);
-      last = ap (λ (n : ℕ). last_key separator (drop n leaves)) one ∙ ap (λ k. last_key k (drop (suc at) leaves)) separator-is ∙ sym (key-next key leaves at empty inside);
-      leaf = subst (λ (p : Packing). LeafIsFirst p.pages) (sym here) came.0;
-      room = subst (λ p. IsHighKey separator p) (sym here) (subst (λ k. IsHighKey k (tuple_came fillfactor key packing leaf.tuple leaf.extra)) (sym separator-is) came.1);
-    }
+    let one : leaves_between number number leaves ≡ leaf ∷ [] =
+    between-is number number leaves empty (omega arith) inside
+    ∙ ap (λ (n : ℕ). take n (drop number leaves) ++ leaf ∷ []) (let n : number - number ≡ 0 = omega arith in n) in
+    let came = leaf-arrived fillfactor (breaks_leaf fillfactor packing (length leaf.tuple)) key leaf.tuple leaf.extra packing first in
+    let room : high_key_room now ≡ length leaf.tuple + 8 = ap high_key_room here ∙ came.1 in
+    (here ∙ ap (leaves_came fillfactor key packing) (sym one), some-pages now.pages now.tuples now.blocks now.image (omega arith))
+
+-- so many leaf tuples join the open leaf
+pub joining-of : (fillfactor fillfactor' : ℕ) (packing : Packing) (leaves : List Leaf) (count : ℕ) → 0 < length packing.pages → fillfactor' ≡ fillfactor
+    → IfSome (slice_get packing.pages 0) (λ page. AreJoining fillfactor' page leaves count)
+    → (page : PageState) × (slice_get packing.pages 0 ≡ Some page) × AreJoining fillfactor page leaves count
+joining-of fillfactor fillfactor' packing leaves count some same are =
+    let at = some-at packing.pages 0 some in
+    (at.0, at.1, subst (λ (n : ℕ). AreJoining n at.0 leaves count) same (at-got (λ page. AreJoining fillfactor' page leaves count) packing.pages 0 at.0 at.1 are))
+
+-- a tuple came, and so many behind it joined the open leaf
+pub more-came : (fillfactor : ℕ) (key : List ℕ) (packing mid now : Packing) (leaves : List Leaf) (number first last count : ℕ)
+    → mid ≡ leaves_came fillfactor key packing (leaves_between number number leaves) → first ≡ number + 1 → last ≡ number + count → 0 < count
+    → (page : PageState) × (slice_get mid.pages 0 ≡ Some page) × AreJoining fillfactor page (drop first leaves) count
+    → now ≡ all_added (leaves_between first last leaves) mid → now ≡ leaves_came fillfactor key packing (leaves_between number last leaves)
+more-came fillfactor key packing mid now leaves number first last count begun f l some joining made =
+    let one = leaves_between number number leaves in
+    let others = take count (drop first leaves) in
+    let same : leaves_between first last leaves ≡ others = ap (λ (n : ℕ). take n (drop first leaves)) (let e : last - first + 1 ≡ count = omega arith in e) in
+    let whole : leaves_between number last leaves ≡ one ++ others =
+    ap (λ (n : ℕ). take n (drop number leaves)) (let e : last - number + 1 ≡ (number - number + 1) + count = omega arith in e)
+    ∙ take-add (number - number + 1) count (drop number leaves)
+    ∙ ap (λ l. one ++ take count l) (drop-drop (number - number + 1) number leaves
+    ∙ ap (λ (n : ℕ). drop n leaves) (let e : number + (number - number + 1) ≡ first = omega arith in e)) in
+    made ∙ ap (λ ls. all_added ls mid) same
+    ∙ sym (came-are-added fillfactor (last_key key one) others mid joining.0 joining.1 joining.2.join)
+    ∙ ap (λ p. leaves_came fillfactor (last_key key one) p others) begun
+    ∙ sym (came-part fillfactor key packing one others) ∙ ap (leaves_came fillfactor key packing) (sym whole)
 
 -- the first tuple of a run has come
 pub first-laid : (fillfactor : ℕ) (key : List ℕ) (packing : Packing) (leaves : List Leaf) (first : RowGroup) (separator : List ℕ) (now : Packing)

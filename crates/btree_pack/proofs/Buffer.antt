@@ -1,9 +1,9 @@
 -- Tuples in one buffer: one more of them, and those in front of one.
-use Rattle.std.proofs.Common.{◌≡◌, ℕ, zero, suc, ◌+◌, ◌-◌, ◌<◌, ◌≤◌, List, [], ◌∷◌, ◌++◌, length, take, drop, get_or, refl, sym, ap, ◌∙◌, arith}
+use Rattle.std.proofs.Common.{◌≡◌, ℕ, zero, suc, ◌+◌, ◌-◌, ◌<◌, ◌≤◌, List, [], ◌∷◌, ◌++◌, length, take, drop, get_or, refl, sym, ap, ◌∙◌, arith, append_assoc, length-append}
 use Rattle.std.specs.Prelude.{sum, IsTrue, ◌↔◌, ◌==◌}
 use Rattle.std.proofs.lemmas.Bool.Decides.{nat_tests}
 use Rattle.std.proofs.lemmas.List.{drop-drop, length-drop, take-append-le, drop-append-le, take_all}
-use Rattle.std.proofs.lemmas.List.Sums.{sum_by-cons}
+use Rattle.std.proofs.lemmas.List.Sums.{sum_by-cons, sum_by_push}
 use Rattle.btree_pack.specs.Pass.Buffer.{cut_by}
 
 pub length-cut_by : (sizes bytes : List ℕ) → length (cut_by sizes bytes) ≡ length sizes
@@ -22,6 +22,28 @@ cut_by-push (size ∷ sizes) bytes tuple whole =
     ap (λ t. t ∷ cut_by (sizes ++ length tuple ∷ []) (drop size (bytes ++ tuple))) (take-append-le size bytes tuple fits)
     ∙ ap (λ b. take size bytes ∷ cut_by (sizes ++ length tuple ∷ []) b) (drop-append-le size bytes tuple fits)
     ∙ ap (λ l. take size bytes ∷ l) (cut_by-push sizes (drop size bytes) tuple rest)
+
+-- tuples of two buffers
+cut_by-append : (sizes bytes more rest : List ℕ) → sum sizes ≡ length bytes → cut_by (sizes ++ more) (bytes ++ rest) ≡ cut_by sizes bytes ++ cut_by more rest
+cut_by-append [] [] more rest whole = refl
+cut_by-append [] (b ∷ bytes) more rest whole = absurd (omega arith)
+cut_by-append (size ∷ sizes) bytes more rest whole =
+    let parts = sum_by-cons (λ (x : ℕ). x) size sizes in
+    let fits : size ≤ length bytes = omega arith in
+    let behind : sum sizes ≡ length (drop size bytes) = omega (arith, length-drop size bytes) in
+    ap (λ t. t ∷ cut_by (sizes ++ more) (drop size (bytes ++ rest))) (take-append-le size bytes rest fits)
+    ∙ ap (λ b. take size bytes ∷ cut_by (sizes ++ more) b) (drop-append-le size bytes rest fits)
+    ∙ ap (λ l. take size bytes ∷ l) (cut_by-append sizes (drop size bytes) more rest behind)
+
+-- a tuple more, and others behind it
+pub cut_by-all : (sizes bytes tuple more rest : List ℕ) → sum sizes ≡ length bytes
+    → cut_by ((sizes ++ length tuple ∷ []) ++ more) ((bytes ++ tuple) ++ rest) ≡ cut_by sizes bytes ++ tuple ∷ cut_by more rest
+cut_by-all sizes bytes tuple more rest whole =
+    let s = sum_by_push (λ (x : ℕ). x) sizes (length tuple) in
+    let l = length-append bytes tuple in
+    cut_by-append (sizes ++ length tuple ∷ []) (bytes ++ tuple) more rest (omega arith)
+    ∙ ap (λ l. l ++ cut_by more rest) (cut_by-push sizes bytes tuple whole)
+    ∙ append_assoc (cut_by sizes bytes) (tuple ∷ []) (cut_by more rest)
 
 pub cut_by-take : (at : ℕ) (sizes bytes : List ℕ) → cut_by (take at sizes) bytes ≡ take at (cut_by sizes bytes)
 cut_by-take zero sizes bytes = refl

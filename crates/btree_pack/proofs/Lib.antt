@@ -36,6 +36,7 @@ pub mod Bringing
 pub mod Parting
 pub mod Puts
 pub mod Writings
+pub mod Joinings
 pub mod Adding
 -- which rows and runs are taken: cited by the crates above
 pub mod RowsTaken

@@ -2,7 +2,7 @@
 use Rattle.std.proofs.Common.{◌≡◌, ℕ, zero, suc, ◌+◌, ◌%◌, ◌<◌, ◌≤◌, ◌^◌, List, [], ◌∷◌, ◌++◌, length, take, ap, ◌∙◌, arith, length-append}
 use Rattle.std.specs.Prelude.{All}
 use Rattle.std.proofs.lemmas.List.{length-take-le}
-use Rattle.std.proofs.lemmas.List.Elements.{All-push}
+use Rattle.std.proofs.lemmas.List.Elements.{All-append, All-cons, All-push}
 use Rattle.std.proofs.lemmas.List.Sums.{sum_by-append, sum_by-cons}
 use Rattle.pg_bytes.proofs.Writes.{length-number_bytes}
 use Rattle.pg_bytes.specs.ItemPage.{item_page, upper_at}
@@ -30,7 +30,7 @@ first_form-tuple (suc below) tuple is =
     let size = length-first_form below tuple is.least in
     record { whole = ap (λ (n : ℕ). n % 8) size; least = omega arith; most = omega arith }
 
-spare-few : (level : ℕ) → spare level ≤ 8
+pub spare-few : (level : ℕ) → spare level ≤ 8
 spare-few zero = omega arith
 spare-few (suc level) = omega arith
 
@@ -64,6 +64,25 @@ one-more page taken tuple extra more opened is fits few count =
       count = omega arith;
       room = omega arith;
       tuples = All-push IsTuple page.before page.last opened.tuples opened.last;
+      last = is;
+      low_key = opened.low_key;
+      block = opened.block;
+      level = opened.level;
+      extra = few;
+    }
+
+-- a page with these tuples more and one behind them
+pub all-more : (page : PageState) (taken : ℕ) (tuples : List (List ℕ)) (tuple : List ℕ) (extra more : ℕ) → IsOpen page taken → All IsTuple tuples → IsTuple tuple
+    → used page + room_of tuples + (length tuple + spare page.level) ≤ page_room → extra ≤ 8192 → more ≡ taken + room_of tuples + (length tuple + 4)
+    → IsOpen (record page { before = page.before ++ page.last ∷ tuples; last = tuple; extra = extra }) more
+all-more page taken tuples tuple extra more opened are is fits few count =
+    let parts = sum_by-append (λ (t : List ℕ). length t + 4) page.before (page.last ∷ tuples) in
+    let last = sum_by-cons (λ (t : List ℕ). length t + 4) page.last tuples in
+    let was = opened.count in
+    record {
+      count = omega arith;
+      room = omega arith;
+      tuples = All-append IsTuple page.before (page.last ∷ tuples) opened.tuples (All-cons IsTuple page.last tuples opened.last are);
       last = is;
       low_key = opened.low_key;
       block = opened.block;

@@ -105,7 +105,7 @@ carry-begins fillfactor level pages tuples blocks image pivot is =
 first-split : (pages : List PageState) (page : PageState) → slice_get pages 0 ≡ Some page → pages ≡ page ∷ drop 1 pages
 first-split pages page here = drop-got pages 0 page here
 
-added-to : (tuple : List ℕ) (extra : ℕ) (page : PageState) (above : List PageState) (tuples blocks : ℕ) (image : List ℕ)
+pub added-to : (tuple : List ℕ) (extra : ℕ) (page : PageState) (above : List PageState) (tuples blocks : ℕ) (image : List ℕ)
     → added tuple extra (kept (page ∷ above) tuples blocks image) ≡ kept (with_tuple tuple extra page ∷ above) (suc tuples) blocks image
 unfolding added
 added-to tuple extra page above tuples blocks image = refl

@@ -28,6 +28,8 @@ pub mod Taken
 pub mod Put
 -- leaf tuples apart from the pages
 pub mod Run
+-- leaf tuples that join the open leaf
+pub mod Joining
 -- a writer of leaf tuples once rows were put
 pub mod Written
 -- a packer of runs once runs were added

@@ -41,8 +41,9 @@
 //! key, and its separator of these and of the group before them. So where sorted rows are cut into
 //! runs between which the key changes, a `LeafWriter` for each run writes its leaf tuples and their
 //! separators on a thread of its own, into a `LeafRun`. A `RunPacker` then takes the runs in their
-//! order and lays pages of tuples that are written. Of each run it makes one separator itself: that
-//! between the last group before the run and its first one, whose keys differ.
+//! order and lays pages of tuples that are written: their sizes tell how many of them join the open
+//! leaf, and these are copied at once. Of each run it makes one separator itself: that between the
+//! last group before the run and its first one, whose keys differ.
 //!
 //! # The definition
 //!
@@ -106,6 +107,7 @@ mod open_leaves;
 mod open_page;
 mod open_tower;
 mod packer;
+mod page_fill;
 mod row_group;
 mod run_leaves;
 mod run_packer;

@@ -1,29 +1,24 @@
-ghost use Rattle.std.specs.Prelude.{◌≡◌, ◌+◌, ◌<◌, ◌≤◌, ◌^◌, false, IfOk, OnOk, length};
+ghost use Rattle.std.specs.Prelude.{◌≡◌, ◌+◌, ◌++◌, ◌∷◌, ◌<◌, ◌≤◌, ◌^◌, false, All, IfOk, OnOk, drop, length};
 ghost use Rattle.btree_pack.specs.Break.{page_room, spare};
 ghost use Rattle.btree_pack.specs.Nodes.{flags_on};
-ghost use Rattle.btree_pack.specs.Pass.Packing.{IsTuple, finished_bytes, first_form, first_page, is_full, last_bytes, next_page, pivot_of, used, with_tuple};
+ghost use Rattle.btree_pack.specs.Pass.Buffer.{tuples_cut, tuples_size};
+ghost use Rattle.btree_pack.specs.Pass.Joining.{AreJoining, fill_of};
+ghost use Rattle.btree_pack.specs.Pass.Packing.{IsOpen, IsTuple, finished_bytes, first_form, first_page, is_full, last_bytes, next_page, pivot_of, room_of, used, with_tuple};
+ghost use Rattle.btree_pack.specs.Pass.Run.{IsLeaf};
 ghost use Rattle.btree_pack.specs.Tuple.{with_child};
 
+use crate::leaves::{LeafSize, Leaves};
+use crate::page_fill::{PageFill, SPARE};
 use crate::special::{LEAF, ROOT, SpecialSpace};
 use crate::tuples::Tuples;
 use byteorder::{ByteOrder, LittleEndian};
-use pg_bytes::{LINE_POINTER, PAGE, PageBuf};
+use pg_bytes::{LINE_POINTER, PageBuf};
 use std::alloc::{AllocError, Global};
 use std::marker::Model;
 use std::mem;
 
 // The bytes of a tuple without keys (`sizeof(IndexTupleData)`).
 const MINUS_INFINITY: usize = 8;
-
-// What a page has for its tuples and line pointers, where those of the high key and of one tuple
-// more are set aside.
-const ROOM: usize = 8144;
-
-// What an arriving tuple leaves on a leaf: the row pointer that its high key may have.
-const SPARE: usize = 8;
-
-// How full pages above the leaves are packed, in hundredths (`BTREE_NONLEAF_FILLFACTOR`).
-const INNER_FILL: usize = 70;
 
 /// The open page of a level (`BTPageState` of `nbtsort.c`), seen as its place in the file and its
 /// tuples.
@@ -123,16 +118,38 @@ impl OpenPage {
         ensures full { result ≡ is_full fillfactor self.now size }
         ensures room { result ≡ false → used self.now + (size + spare self.now.level) ≤ page_room }
     {
-        if self.before.is_empty() {
-            return false;
+        self.fill().breaks(fillfactor, size)
+    }
+
+    // How full the page is.
+    fn fill(&self) -> PageFill
+        ensures fill { result ≡ fill_of self.now }
+        ensures open { IsOpen self.now result.taken }
+    {
+        PageFill {
+            level: self.level,
+            alone: self.before.is_empty(),
+            taken: self.taken,
+            extra: self.extra,
         }
-        let (spare, fill) = if self.level == 0 {
-            (SPARE, usize::from(fillfactor))
-        } else {
-            (0, INNER_FILL)
-        };
-        let soft = PAGE * 100usize.saturating_sub(fill) / 100;
-        ROOM < self.taken + (size + spare) || ROOM + self.extra < self.taken + soft
+    }
+
+    /// How many of the leaf tuples from this number on join the page before one breaks it.
+    pub fn joining(&self, fillfactor: u8, leaves: &Leaves, from: usize) -> usize
+        requires leaves { All IsLeaf leaves.now }
+        requires from { from ≤ length leaves.now }
+        ensures { AreJoining fillfactor self.now (drop from leaves.now) result }
+    {
+        let most = leaves.len() - from;
+        let mut fill = self.fill();
+        for (count, size) in leaves.sizes(from, most).iter().enumerate() {
+            let tuple = usize::from(size.tuple);
+            if fill.breaks(fillfactor, tuple) {
+                return count;
+            }
+            fill = fill.with(tuple, usize::from(size.extra));
+        }
+        most
     }
 
     /// How many bytes the page's high key may take.
@@ -155,6 +172,35 @@ impl OpenPage {
         self.before.push(&self.last)?;
         mem::swap(&mut self.last, tuple);
         self.extra = extra;
+        self.taken += self.last.len() + LINE_POINTER;
+        Ok(())
+    }
+
+    /// Adds tuples of these sizes, which stand one behind the other in these bytes, and then one
+    /// more, as `add` does. An error means that no memory was left.
+    pub fn add_all(
+        &mut self,
+        bytes: &[u8],
+        sizes: &[LeafSize],
+        tuple: &mut Vec<u8>,
+        extra: usize,
+    ) -> Result<(), AllocError>
+        requires whole { tuples_size sizes.now ≡ length bytes.now }
+        requires tuples { All IsTuple (tuples_cut sizes.now bytes.now) }
+        requires tuple { IsTuple tuple.old.items }
+        requires room { used self.old + room_of (tuples_cut sizes.now bytes.now)
+            + (length tuple.old.items + spare self.old.level) ≤ page_room }
+        requires extra { extra ≤ 8192 }
+        ensures { OnOk result (self.new ≡ record self.old {
+          before = self.old.before ++ self.old.last ∷ tuples_cut sizes.now bytes.now;
+          last = tuple.old.items;
+          extra = extra;
+        }) }
+    {
+        self.before.push_all(&self.last, bytes, sizes)?;
+        mem::swap(&mut self.last, tuple);
+        self.extra = extra;
+        self.taken += bytes.len() + LINE_POINTER * sizes.len();
         self.taken += self.last.len() + LINE_POINTER;
         Ok(())
     }

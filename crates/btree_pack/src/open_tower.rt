@@ -1,12 +1,16 @@
-ghost use Rattle.std.specs.Prelude.{◌≡◌, ◌+◌, ◌-◌, ◌<◌, ◌≤◌, ◌^◌, [], ◌∷◌, false, true, IfOk, IfSome, OnOk, drop, length, suc, take, slice_get, slice_set};
+ghost use Rattle.std.specs.Prelude.{◌≡◌, ◌+◌, ◌-◌, ◌<◌, ◌≤◌, ◌^◌, [], ◌∷◌, false, true, All, IfOk, IfSome, OnOk, drop, length, suc, take, slice_get, slice_set};
 ghost use Rattle.pg_bytes.specs.Image.{placed};
 ghost use Rattle.btree_pack.specs.Break.{page_room, spare};
+ghost use Rattle.btree_pack.specs.Pass.Buffer.{IsPlaceIn, leaves_between, place_of};
 ghost use Rattle.btree_pack.specs.Pass.Finish.{IsFileOfThePacked};
+ghost use Rattle.btree_pack.specs.Pass.Joining.{AreJoining, HasRoomFor, all_added, with_leaves};
 ghost use Rattle.btree_pack.specs.Pass.Packed.{packed, tuple_came};
 ghost use Rattle.btree_pack.specs.Pass.Packing.{IsHighKey, IsTuple, added, breaks_leaf, carried, closed, finished_bytes, first_page, high_key_room, last_bytes, leaf_taken, next_page, pivot_of, turned, used, with_carried, with_tuple};
+ghost use Rattle.btree_pack.specs.Pass.Run.{IsLeaf};
 ghost use Rattle.btree_pack.specs.Pass.Sight.{Closes, IsFinished, KeepsAllButPages, fillfactor_of, packing_of};
 ghost use Rattle.btree_pack.specs.Tuple.{minus_infinity};
 
+use crate::leaves::{LeafPlace, Leaves};
 use crate::meta::MetaPage;
 use crate::open_page::OpenPage;
 use pg_bytes::IndexImage;
@@ -145,6 +149,46 @@ impl OpenTower {
         self.add(buffer, extra)
     }
 
+    /// How many of the leaf tuples from this number on join the open leaf before one breaks it.
+    pub fn joining(&self, leaves: &Leaves, from: usize) -> usize
+        requires leaf { 0 < length (packing_of self.now).pages }
+        requires leaves { All IsLeaf leaves.now }
+        requires from { from ≤ length leaves.now }
+        ensures { IfSome (slice_get (packing_of self.now).pages 0) (λ page.
+            AreJoining (fillfactor_of self.now) page (drop from leaves.now) result) }
+    {
+        self.pages[0].joining(self.fillfactor, leaves, from)
+    }
+
+    /// Adds the leaf tuples from one up to another to the open leaf, which has room for them. The
+    /// buffer is filled with the last one, and what it has then isn't said. An error means that no
+    /// memory was left.
+    pub fn lay_all(
+        &mut self,
+        buffer: &mut Vec<u8>,
+        leaves: &Leaves,
+        first: LeafPlace,
+        last: LeafPlace,
+    ) -> Result<(), AllocError>
+        requires leaves { All IsLeaf leaves.now }
+        requires first { first ≡ place_of first.number leaves.now }
+        requires last { IsPlaceIn leaves.now last }
+        requires order { first.number ≤ last.number }
+        requires leaf { 0 < length (packing_of self.old).pages }
+        requires room { IfSome (slice_get (packing_of self.old).pages 0)
+            (HasRoomFor (leaves_between first.number last.number leaves.now)) }
+        ensures ok { OnOk result (packing_of self.new ≡ all_added
+            (leaves_between first.number last.number leaves.now) (packing_of self.old)) }
+        ensures fillfactor { OnOk result (fillfactor_of self.new ≡ fillfactor_of self.old) }
+    {
+        buffer.clear();
+        buffer.extend_from_slice(leaves.tuple(last))?;
+        self.join_all(buffer, leaves, first, last)?;
+        self.count_tuples(last.number - first.number)?;
+        self.count_tuple()?;
+        Ok(())
+    }
+
     // The first leaf. Nothing is below its first key, which minus infinity stands for.
     #[cold]
     #[inline(never)]
@@ -208,6 +252,37 @@ impl OpenTower {
         page.add(tuple, extra)
     }
 
+    // Leaf tuples from one up to another join the open leaf. The buffer has the last one.
+    fn join_all(
+        &mut self,
+        buffer: &mut Vec<u8>,
+        leaves: &Leaves,
+        first: LeafPlace,
+        last: LeafPlace,
+    ) -> Result<(), AllocError>
+        requires leaves { All IsLeaf leaves.now }
+        requires first { first ≡ place_of first.number leaves.now }
+        requires last { IsPlaceIn leaves.now last }
+        requires order { first.number ≤ last.number }
+        requires leaf { 0 < length self.old.pages.items }
+        requires room { IfSome (slice_get self.old.pages.items 0)
+            (HasRoomFor (leaves_between first.number last.number leaves.now)) }
+        requires tuple { IfSome (slice_get leaves.now last.number) (λ leaf.
+            buffer.old.items ≡ leaf.tuple) }
+        ensures page { OnOk result (IfSome (slice_get self.old.pages.items 0) (λ page.
+            self.new.pages.items ≡ slice_set self.old.pages.items 0
+            (with_leaves (leaves_between first.number last.number leaves.now) page))) }
+        ensures others { OnOk result (KeepsAllButPages self.old self.new) }
+    {
+        let count = last.number - first.number;
+        let tuples = leaves.tuples(first, last);
+        let sizes = leaves.sizes(first.number, count);
+        let extra = leaves.extra(last.number);
+        let page = &mut self.pages[0];
+        page.add_all(tuples, sizes, buffer, extra)?;
+        Ok(())
+    }
+
     // The first page of a level above all others.
     fn begin_level(&mut self, level: usize, pivot: &[u8]) -> Result<(), AllocError>
         requires level { level ≡ length self.old.pages.items }
@@ -269,10 +344,19 @@ impl OpenTower {
     fn count_tuple(&mut self) -> Result<(), AllocError>
         ensures { OnOk result (self.new ≡ record self.old { tuples = suc self.old.tuples }) }
     {
-        if self.tuples == u64::MAX {
+        self.count_tuples(1)?;
+        Ok(())
+    }
+
+    // So many leaf tuples more.
+    fn count_tuples(&mut self, count: usize) -> Result<(), AllocError>
+        ensures { OnOk result (self.new ≡ record self.old { tuples = self.old.tuples + count }) }
+    {
+        let count = count as u64;
+        if self.tuples > u64::MAX - count {
             return Err(AllocError);
         }
-        self.tuples += 1;
+        self.tuples += count;
         Ok(())
     }
 

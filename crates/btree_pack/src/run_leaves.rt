@@ -1,5 +1,6 @@
-ghost use Rattle.std.specs.Prelude.{◌≡◌, ◌<◌, ◌≤◌, All, IfSome, OnOk, drop, length, slice_get};
+ghost use Rattle.std.specs.Prelude.{◌≡◌, ◌<◌, ◌≤◌, All, IfOk, IfSome, OnOk, drop, length, slice_get};
 ghost use Rattle.btree_pack.specs.Pass.Added.{AreRunsReady, HasAddedRun, KeepsKeys, last_key, leaves_came};
+ghost use Rattle.btree_pack.specs.Pass.Buffer.{IsPlaceIn, leaves_between};
 ghost use Rattle.btree_pack.specs.Pass.Grouped.{IsGroupOf};
 ghost use Rattle.btree_pack.specs.Pass.Packed.{tuple_came};
 ghost use Rattle.btree_pack.specs.Pass.Packing.{IsHighKey};
@@ -7,7 +8,7 @@ ghost use Rattle.btree_pack.specs.Pass.Run.{IsLeaf, IsOfTheFirst};
 ghost use Rattle.btree_pack.specs.Pass.Sight.{fillfactor_of, packing_of};
 ghost use Rattle.btree_pack.specs.Pass.Taken.{LeafIsFirst};
 
-use crate::leaves::Leaves;
+use crate::leaves::{FIRST, LeafPlace, Leaves};
 use crate::open_tower::OpenTower;
 use crate::row_group::RowGroup;
 use btree_item::truncate;
@@ -86,7 +87,7 @@ impl RunLeaves {
         let high_key = &self.high_key;
         self.tower.lay(
             &mut self.tuple,
-            leaves.tuple(0, 0),
+            leaves.tuple(FIRST),
             leaves.extra(0),
             high_key,
         )
@@ -114,17 +115,53 @@ impl RunLeaves {
           tuple = self.new.tuple;
         }) }
     {
-        let mut place = leaves.behind(0, 0);
+        let end = leaves.len() - 1;
+        let mut last = FIRST;
         let mut high_key = separator;
-        for at in 1..leaves.len() {
-            let tuple = leaves.tuple(at, place);
-            let extra = leaves.extra(at);
-            self.tower.lay(&mut self.tuple, tuple, extra, high_key)?;
-            high_key = leaves.separator(at, place);
-            place = leaves.behind(at, place);
+        while last.number < end {
+            let next = leaves.behind(last, 1);
+            last = self.lay_page(leaves, next, high_key)?;
+            high_key = leaves.separator(last);
         }
         self.high_key.clear();
         self.high_key.extend_from_slice(high_key)?;
         Ok(())
+    }
+
+    // The tuple at a place comes, and those behind it that join the leaf with it, and the place of
+    // the last of them is given.
+    fn lay_page(
+        &mut self,
+        leaves: &Leaves,
+        place: LeafPlace,
+        high_key: &[u8],
+    ) -> Result<LeafPlace, AllocError>
+        requires leaf { LeafIsFirst (packing_of self.old.tower).pages }
+        requires leaves { All IsLeaf leaves.now }
+        requires place { IsPlaceIn leaves.now place }
+        requires high_key { IsHighKey high_key.now (packing_of self.old.tower) }
+        ensures last { IfOk result (IsPlaceIn leaves.now) }
+        ensures order { IfOk result (λ last. place.number ≤ last.number) }
+        ensures laid { IfOk result (λ last. packing_of self.new.tower ≡ leaves_came
+            (fillfactor_of self.old.tower) high_key.now (packing_of self.old.tower)
+            (leaves_between place.number last.number leaves.now)) }
+        ensures fillfactor { OnOk result
+            (fillfactor_of self.new.tower ≡ fillfactor_of self.old.tower) }
+        ensures others { OnOk result (self.new ≡ record self.old {
+          tower = self.new.tower;
+          tuple = self.new.tuple;
+        }) }
+    {
+        let tuple = leaves.tuple(place);
+        let extra = leaves.extra(place.number);
+        self.tower.lay(&mut self.tuple, tuple, extra, high_key)?;
+        let first = leaves.behind(place, 1);
+        let count = self.tower.joining(leaves, first.number);
+        if count == 0 {
+            return Ok(place);
+        }
+        let last = leaves.behind(place, count);
+        self.tower.lay_all(&mut self.tuple, leaves, first, last)?;
+        Ok(last)
     }
 }

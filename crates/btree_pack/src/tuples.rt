@@ -1,8 +1,10 @@
-ghost use Rattle.std.specs.Prelude.{◌≡◌, ◌↔◌, [], ◌∷◌, ◌++◌, ◌+◌, ◌*◌, ◌<◌, ◌≤◌, ◌^◌, All, IfOk, IsTrue, OnErr, OnOk, length};
+ghost use Rattle.std.specs.Prelude.{◌≡◌, ◌↔◌, [], ◌∷◌, ◌++◌, ◌+◌, ◌*◌, ◌<◌, ◌≤◌, ◌^◌, All, IfOk, IsTrue, OnErr, OnOk, length, map, vec_capacity, vec_len};
 ghost use Rattle.btree_pack.specs.Page.{special_space};
 ghost use Rattle.btree_pack.specs.Pass.Begun.{begun_page};
+ghost use Rattle.btree_pack.specs.Pass.Buffer.{tuples_cut, tuples_size};
 ghost use Rattle.btree_pack.specs.Pass.Packing.{IsTuple, room_of};
 
+use crate::leaves::LeafSize;
 use crate::special::{SPECIAL_BYTES, SPECIAL_PLACE, SpecialSpace};
 use pg_bytes::{LINE_POINTER, PAGE_HEADER, PD_LOWER, PageBuf};
 use std::alloc::{AllocError, Global};
@@ -66,6 +68,29 @@ impl Tuples {
         Ok(())
     }
 
+    /// Adds a tuple at the end, and behind it all those of these sizes, which stand one behind the
+    /// other in these bytes. An error means that no memory was left, and then nothing changes.
+    pub fn push_all(
+        &mut self,
+        tuple: &[u8],
+        bytes: &[u8],
+        sizes: &[LeafSize],
+    ) -> Result<(), AllocError>
+        requires small { length tuple.now < 2 ^ 16 }
+        requires whole { tuples_size sizes.now ≡ length bytes.now }
+        ensures ok { OnOk result
+            (self.new ≡ self.old ++ tuple.now ∷ tuples_cut sizes.now bytes.now) }
+        ensures err { OnErr result (self.new ≡ self.old) }
+    {
+        self.sizes.reserve(sizes.len() + 1)?;
+        self.bytes.reserve(tuple.len() + bytes.len())?;
+        self.bytes.extend_from_slice(tuple)?;
+        self.bytes.extend_from_slice(bytes)?;
+        self.sizes.push_reserved(tuple.len() as u16);
+        push_sizes(&mut self.sizes, sizes);
+        Ok(())
+    }
+
     /// Takes all tuples away and keeps the memory.
     pub fn clear(&mut self)
         ensures { self.new ≡ [] }
@@ -97,6 +122,16 @@ impl Tuples {
             place = end;
         }
         Ok(page)
+    }
+}
+
+// Adds the sizes of these leaf tuples, for which there is memory.
+fn push_sizes(all: &mut Vec<u16>, sizes: &[LeafSize])
+    requires { vec_len all.old + length sizes.now ≤ vec_capacity all.old }
+    ensures { all.new.items ≡ all.old.items ++ map (λ size. size.tuple) sizes.now }
+{
+    for size in sizes {
+        all.push_reserved(size.tuple);
     }
 }
 

@@ -38,13 +38,17 @@ room_of tuples = sum_by (λ tuple. length tuple + line_pointer_size) tuples
 abbrev pub used : PageState → ℕ
 used page = room_of page.before + (length page.last + line_pointer_size)
 
+-- whether a tuple of this size breaks a page of a level that has two tuples, which take so many bytes, and the list of
+-- the last one so many of them
+abbrev pub breaks_at : ℕ → ℕ → ℕ → ℕ → ℕ → Bool
+breaks_at fillfactor level taken extra size =
+    nat_lt page_room (taken + (size + spare level)) || nat_lt (page_room + extra) (taken + soft_limit fillfactor level)
+
 -- whether a tuple of this size breaks the open page, which has two tuples then
 abbrev pub is_full : ℕ → PageState → ℕ → Bool
 is_full fillfactor page size = elim page.before [
   | [] ↦ false
-  | first ∷ others ↦
-      nat_lt page_room (used page + (size + spare page.level))
-      || nat_lt (page_room + page.extra) (used page + soft_limit fillfactor page.level)
+  | first ∷ others ↦ breaks_at fillfactor page.level (used page) page.extra size
 ]
 
 -- a tuple as the first of a page: above the leaves minus infinity with its child
