@@ -66,8 +66,6 @@ mod rule;
 mod scan;
 mod seat;
 mod steps;
-#[cfg(test)]
-mod tests;
 mod view;
 
 pub use claim::{Claim, Claims};

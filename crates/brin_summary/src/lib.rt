@@ -70,6 +70,3 @@ pub use laws::{
     tuples_take_their_room,
 };
 pub use summary::{Summaries, Summary};
-
-#[cfg(test)]
-mod tests;

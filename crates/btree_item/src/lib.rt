@@ -37,8 +37,6 @@ mod laws;
 mod pivot_tuple;
 mod plain_tuple;
 mod posting_tuple;
-#[cfg(test)]
-mod tests;
 mod truncation;
 mod tuple;
 

@@ -131,6 +131,3 @@ pub use leaf_writer::LeafWriter;
 pub use open_tower::OpenTower;
 pub use packer::Packer;
 pub use run_packer::RunPacker;
-
-#[cfg(test)]
-mod tests;

@@ -31,8 +31,6 @@ mod entry;
 mod extract;
 mod laws;
 mod size;
-#[cfg(test)]
-mod tests;
 
 pub use entry::{Category, Entry, EntryList};
 pub use extract::{distinct_elements, entries_of};

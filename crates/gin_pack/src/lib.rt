@@ -79,6 +79,3 @@ mod store;
 pub use packer::{EntryPacker, pack};
 pub use posting_run::PostingRun;
 pub use posting_writer::PostingWriter;
-
-#[cfg(test)]
-mod tests;

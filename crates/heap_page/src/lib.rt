@@ -65,6 +65,3 @@ pub use infomask::{Infomask, Infomask2};
 pub use laws::{items_are_apart, items_are_whole, least_page_fault_is_one};
 pub use row_state::{RowState, state};
 pub use view::View;
-
-#[cfg(test)]
-mod tests;

@@ -49,8 +49,6 @@ mod datum;
 mod fault;
 mod laws;
 mod scalar;
-#[cfg(test)]
-mod tests;
 mod tuple;
 mod values;
 mod varlena;

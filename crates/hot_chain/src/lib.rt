@@ -48,8 +48,6 @@ mod find;
 mod laws;
 mod root_offsets;
 mod roots;
-#[cfg(test)]
-mod tests;
 
 pub use fault::{RootCause, RootFault};
 pub use find::find_roots;

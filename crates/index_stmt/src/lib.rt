@@ -54,8 +54,6 @@ mod options;
 mod read;
 mod statement;
 mod table_statement;
-#[cfg(test)]
-mod tests;
 mod type_name;
 
 pub use fault::{ReadStmt, StmtCause, StmtFault};

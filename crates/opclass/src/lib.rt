@@ -43,8 +43,6 @@ mod order;
 mod reader;
 mod spec;
 mod table;
-#[cfg(test)]
-mod tests;
 mod types;
 mod value;
 

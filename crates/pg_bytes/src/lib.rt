@@ -48,6 +48,3 @@ pub const PAGE_HEADER: usize = 24;
 
 /// The bytes of a line pointer (`sizeof(ItemIdData)`).
 pub const LINE_POINTER: usize = 4;
-
-#[cfg(test)]
-mod tests;

@@ -51,8 +51,6 @@ mod laws;
 mod leaves;
 mod level;
 mod pointers;
-#[cfg(test)]
-mod tests;
 mod tree;
 mod varbyte;
 
@@ -62,5 +60,4 @@ pub use laws::{
     decoding_undoes_encoding, numbers_are_ordered_as_pointers, segments_are_of_one_list,
     trees_are_read_as_one_list,
 };
-pub use pointers::are_ascending;
 pub use tree::build_tree;

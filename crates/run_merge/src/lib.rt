@@ -55,8 +55,6 @@ mod merged;
 mod ordered_runs;
 mod part_merge;
 mod range;
-#[cfg(test)]
-mod tests;
 
 pub use cuts::Cuts;
 pub use cutting::cut_points;

@@ -48,8 +48,6 @@ mod run;
 mod run_buf;
 mod stored;
 mod tape;
-#[cfg(test)]
-mod tests;
 mod text;
 
 pub use laws::{

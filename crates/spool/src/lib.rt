@@ -39,8 +39,6 @@ mod entry_spool;
 mod gather;
 mod laws;
 mod spool;
-#[cfg(test)]
-mod tests;
 
 pub use entry_spool::order_of_entries;
 pub use gather::Gather;

@@ -34,8 +34,6 @@ mod laws;
 mod reader;
 mod scan;
 mod sign;
-#[cfg(test)]
-mod tests;
 mod token;
 mod value;
 

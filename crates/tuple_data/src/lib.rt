@@ -29,8 +29,6 @@ mod data;
 mod datum;
 mod laws;
 mod nulls;
-#[cfg(test)]
-mod tests;
 
 pub use data::{data_size, put_data};
 pub use laws::{columns_behind_follow, data_take_their_room, front_columns_have_the_front};

@@ -1,5 +1,0 @@
-use Rattle.std.proofs.Common.{length}
-use Rattle.btree_pack.proofs.tests.cases.+record_of.Given as goal
-
-abbrev pub decreases-record_of : goal.decreases-record_of
-decreases-record_of l = length l.values

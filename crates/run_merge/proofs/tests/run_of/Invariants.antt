@@ -1,6 +1,0 @@
-use Rattle.std.proofs.Common.{[], ◌∷◌, All}
-use Rattle.shared_tape.specs.Stored.{IsStorable}
-use Rattle.run_merge.proofs.tests.run_of.Given as goal
-
-abbrev pub invariant-loop-row : goal.invariant-loop-row
-invariant-loop-row l = All (IsStorable (l.part ∷ [])) l.records.items

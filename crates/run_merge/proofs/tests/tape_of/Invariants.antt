@@ -1,6 +1,0 @@
-use Rattle.std.proofs.Common.{[], ◌∷◌}
-use Rattle.run_merge.specs.Sorted.{HaveOrder}
-use Rattle.run_merge.proofs.tests.tape_of.Given as goal
-
-abbrev pub invariant-loop-rows : goal.invariant-loop-rows
-invariant-loop-rows l = HaveOrder (l.part ∷ []) l.tape

@@ -1,7 +1,0 @@
-use Rattle.std.proofs.Common.{take}
-use Rattle.std.specs.Prelude.{All}
-use Rattle.shared_tape.specs.Stored.{IsStorable}
-use Rattle.shared_tape.proofs.tests.run_of.Given as goal
-
-abbrev pub invariant-loop-row : goal.invariant-loop-row
-invariant-loop-row l = All (IsStorable l.order) (take l.row-index l.row-items)

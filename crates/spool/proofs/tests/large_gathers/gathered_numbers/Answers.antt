@@ -1,7 +1,0 @@
-use Rattle.std.proofs.Common.{arith}
-use Rattle.opclass.specs.declared.types.ColType.TheVariants.{Int4Array}
-use Rattle.spool.proofs.Storable.{entries_storable}
-use Rattle.spool.proofs.tests.large_gathers.gathered_numbers.Goals as goal
-
-pub put-requires : goal.put-requires
-put-requires c = entries_storable Int4Array c.args.value.now _ c.requires.typed c.requires.short (omega arith, omega arith)

@@ -1,0 +1,17 @@
+//! Tests of `opclass`, `tuple_data`, `btree_item`, `gin_entry` and `posting_tree`.
+//!
+//! A crate with tests is proved a second time with them, so they stand apart from what they try.
+//! There is no other code here.
+
+#![tactic(auto)]
+
+#[cfg(test)]
+mod entries;
+#[cfg(test)]
+mod items;
+#[cfg(test)]
+mod postings;
+#[cfg(test)]
+mod tuples;
+#[cfg(test)]
+mod values;
