@@ -34,7 +34,7 @@ const POINTER: usize = 6;
 
 /// What a page of a posting tree says besides its content: its flags, how many items a page above
 /// the leaves has, its right link, and its greatest pointer.
-#[derive(Clone, Copy, Debug)]
+#[derive(Clone, Copy)]
 pub(crate) struct DataPage {
     pub flags: u16,
     pub maxoff: u16,

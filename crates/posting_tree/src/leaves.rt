@@ -18,7 +18,7 @@ const SEGMENT_ROOM: usize = 384;
 
 // The leaves of a tree under way: those that are put, and the content of the next one with its
 // greatest pointer.
-#[derive(Debug, Drop)]
+#[derive(Drop)]
 struct Leaves {
     level: Level,
     content: Vec<u8>,

@@ -21,7 +21,7 @@ const KEY: usize = 4;
 
 /// A level of a posting tree whose pages stand on consecutive blocks: the first one's, and the
 /// greatest pointer of each page.
-#[derive(Debug, Drop)]
+#[derive(Drop)]
 pub(crate) struct Level {
     pub first: u32,
     pub keys: Vec<RowPtr>,

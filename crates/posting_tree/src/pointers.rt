@@ -1,5 +1,5 @@
 ghost use Rattle.std.specs.Prelude.{◌≡◌, ◌↔◌, ◌^◌, ◌<◌, IsTrue};
-ghost use Rattle.posting_tree.specs.Segments.{AreAscending, IsBeforeFirst, IsStorable, number_of};
+ghost use Rattle.posting_tree.specs.Segments.{IsStorable, number_of};
 
 use pg_bytes::RowPtr;
 
@@ -7,36 +7,11 @@ use pg_bytes::RowPtr;
 /// `ginpostinglist.c`).
 pub(crate) const OFFSETS: u64 = 1 << 11;
 
-/// Whether a posting list may have these pointers: each with an offset number from 1 to 2,047, and
-/// strictly ascending.
-pub fn are_ascending(ptrs: &[RowPtr]) -> bool
-    ensures { IsTrue result ↔ AreAscending ptrs.now }
-{
-    let mut left = ptrs;
-    while let [ptr, others @ ..] = left {
-        if !is_storable(ptr) || !is_before_first(ptr, others) {
-            return false;
-        }
-        left = others;
-    }
-    true
-}
-
 // Whether a list may have the pointer.
 pub(crate) fn is_storable(ptr: &RowPtr) -> bool
     ensures { IsTrue result ↔ IsStorable ptr.now }
 {
     1 <= ptr.offset && u64::from(ptr.offset) < OFFSETS
-}
-
-// Whether a pointer is before the first of others, if there is one.
-fn is_before_first(ptr: &RowPtr, others: &[RowPtr]) -> bool
-    ensures { IsTrue result ↔ IsBeforeFirst ptr.now others.now }
-{
-    match others {
-        [next, ..] => ptr.is_before(next),
-        [] => true,
-    }
 }
 
 // A pointer as one number (`itemptr_to_uint64` of `ginpostinglist.c`).
