@@ -51,6 +51,11 @@ class Redirect:
 
 
 @dataclass(frozen=True)
+class Dead:
+    """A dead line pointer, without a tuple."""
+
+
+@dataclass(frozen=True)
 class Tuple:
     """A heap tuple of one int4, without its attribute where key is None, or of other attributes."""
 
@@ -67,11 +72,13 @@ class Tuple:
     """Its attributes, where they aren't the one int4."""
     bitmap: bytes = b""
     """Its null bitmap, whose bit of the infomask is set with it."""
+    hoff: int | None = None
+    """Where its attributes begin, if not behind the bitmap."""
 
 
 def tuple_bytes(row):
     """The tuple as it stands on a page, without padding."""
-    hoff = (TUPLE_HEADER - 1 + max(len(row.bitmap), 1) + 7) // 8 * 8
+    hoff = row.hoff or (TUPLE_HEADER - 1 + max(len(row.bitmap), 1) + 7) // 8 * 8
     infomask = row.infomask | (HAS_NULL if row.bitmap else 0)
     header = struct.pack(
         "<IIIHHHHHB",
@@ -86,7 +93,7 @@ def tuple_bytes(row):
 
 
 def page(lines):
-    """The page of these line pointers, each a Redirect, a Tuple or None for an unused one.
+    """The page of these line pointers, each a Redirect, a Tuple, a Dead or None for an unused one.
 
     Tuples stand downwards from the page's end in the order of their line pointers.
     """
@@ -98,6 +105,8 @@ def page(lines):
             words.append(0)
         elif isinstance(line, Redirect):
             words.append(line.target | 2 << 15)
+        elif isinstance(line, Dead):
+            words.append(3 << 15)
         else:
             data = tuple_bytes(line)
             upper -= (len(data) + 7) // 8 * 8

@@ -22,7 +22,7 @@ use std::alloc::Global;
 
 /// Why a block's rows weren't taken: its fault, by the item and the number of the cause, or want of
 /// memory. Item 0 stands for the page.
-#[derive(Clone, Copy, Debug, PartialEq, Eq)]
+#[derive(Clone, Copy, PartialEq, Eq)]
 pub(crate) enum BlockError {
     Fault { item: u16, cause: u8 },
     Memory,

@@ -27,7 +27,7 @@ pub type SummedRanges = Items<SummedRange>;
 pub type RangeParts = Items<SummedRanges>;
 
 /// The rows that a worker took, summed up by their ranges.
-#[derive(Debug, Drop)]
+#[derive(Drop)]
 pub(crate) struct RangeTally {
     pub alloc: Global,
     pub pages_per_range: u32,

@@ -6,7 +6,7 @@ use std::alloc::Global;
 
 /// The row that a worker is at, in memory that is kept for the next one: what stands there is of no
 /// account until a row is read into it.
-#[derive(Debug, Drop)]
+#[derive(Drop)]
 pub(crate) struct RowSlot {
     /// The values of the needed columns, where those of the index are picked out of them.
     pub values: KeyList,

@@ -17,7 +17,7 @@ use pg_bytes::{PAGE, Page};
 use std::alloc::{AllocError, Global};
 
 /// The fault of a block of the heap.
-#[derive(Clone, Copy, Debug, PartialEq, Eq)]
+#[derive(Clone, Copy, PartialEq, Eq)]
 pub(crate) struct BlockFault {
     pub block: u32,
     pub item: u16,

@@ -1,13 +1,10 @@
 use crate::Fault;
-use crate::help::HELP;
 use index_stmt::StmtFault;
 use pg_bytes::RowPtr;
-use std::alloc::Global;
-use std::process::Abort;
 use std::test::Fail;
 
 // Each fault, its status and its text.
-const FAULTS: [(Fault, u8, &str); 8] = [
+static FAULTS: [(Fault, u8, &str); 8] = [
     (Fault::Usage { word: 3 }, 2, "usage: word 3"),
     (
         Fault::Statement(StmtFault {
@@ -56,36 +53,10 @@ const FAULTS: [(Fault, u8, &str); 8] = [
 
 #[test]
 fn each_fault_has_its_text_and_status(rt: HostRuntime) -> Result<(), Fail> {
-    assert_told(&rt, rt.alloc(), &FAULTS)
-}
-
-// That each fault has this status and this text.
-fn assert_told(rt: &impl Abort, alloc: Global, cases: &[(Fault, u8, &str)]) -> Result<(), Fail> {
-    for (fault, status, want) in cases {
-        let text = format!(in alloc; "{fault}")?;
-        assert_eq!(rt; text.as_str(), *want);
-        assert_eq!(rt; fault.status(), *status, "{want}");
-    }
-    Ok(())
-}
-
-#[test]
-fn help_is_one_screen(rt: HostRuntime) -> Result<(), Fail> {
-    assert!(rt; HELP.lines().count() <= 32);
-    assert!(rt; HELP.lines().all(|line| line.len() <= 80));
-    for part in [
-        "build HEAP INDEX TABLE-STATEMENT INDEX-STATEMENT",
-        "--workers=N",
-        "--run-rows=N",
-        "--claims",
-        "--help",
-        "--version",
-        "\n   3  a statement is at fault",
-        "\n   6  two rows",
-        "\n   7  a range",
-        "\n  10  out of memory",
-    ] {
-        assert!(rt; HELP.contains(part), "{part}");
+    for (fault, status, wanted) in &FAULTS {
+        let text = format!(in rt.alloc(); "{fault}")?;
+        assert!(rt; text.as_str() == *wanted);
+        assert!(rt; fault.status() == *status);
     }
     Ok(())
 }

@@ -1,17 +1,13 @@
-// Builds by several workers: the same index whoever claims which blocks, and workers that are
-// watched, and held up, through a gate.
+// Workers that are watched, and held up, through a gate.
 
-use super::made_heaps::heap_broken_at;
-use super::numbered_rows::{Column, numbered_rows};
-use super::runs::{Command, INDEX, INT4_INDEX, TABLE, answer_of, files_of, index_built};
-use crate::{Claim, Ended, Gate, run};
+use super::runs::{files_of, words_with};
+use crate::{Claim, Fault, Gate, run};
 use pg_bytes::PAGE;
 use std::alloc::{AllocError, Global};
-use std::process::Abort;
 use std::sync::atomic::{AtomicBool, AtomicU64, Ordering};
 use std::test::Fail;
 use std::thread::{Threads, yield_now};
-use test_pages::{heap_of, int4_page};
+use test_pages::{heap_of, int4_page, put};
 
 // The most turns for which a gate holds a worker.
 const TURNS: u32 = 1 << 26;
@@ -80,20 +76,20 @@ impl Gate for Holding {
     }
 }
 
-// How a build of an int4 index ends by so many workers, who pass this gate.
+// The fault of a build of an int4 index by so many workers, who pass this gate, and whether the gate
+// has seen its claims and let all workers go in time.
 fn end_behind<R: Threads + Sync>(
     rt: &R,
     alloc: Global,
     heap: &[u8],
     workers: &str,
     gate: &Holding,
-) -> Result<Ended, AllocError> {
-    let mut words = Vec::new(alloc);
-    for word in ["build", "h", "i", TABLE, INDEX, workers] {
-        words.push(String::from_str(alloc, word)?)?;
-    }
+) -> Result<(Option<Fault>, bool), AllocError> {
+    let words = words_with(alloc, Some(workers))?;
     let mut files = files_of(alloc, heap)?;
-    Ok(run(rt, alloc, &words, &mut files, gate))
+    let ended = run(rt, alloc, &words, &mut files, gate);
+    let seen = gate.has_seen(ended.claims.as_slice()) && !gate.ran_out.load(Ordering::SeqCst);
+    Ok((ended.fault, seen))
 }
 
 // A serial scan would hold itself up until the turns run out.
@@ -102,9 +98,8 @@ fn two_workers_are_at_work_at_a_time(rt: HostRuntime) -> Result<(), Fail> {
     let alloc = rt.alloc();
     let heap = heap_of(alloc, &[], 64 * PAGE)?;
     let gate = Holding::new(alloc, 0, 2, 64)?;
-    let ended = end_behind(&rt, alloc, &heap, "--workers=3", &gate)?;
-    assert_eq!(rt; answer_of(alloc, &ended)?.as_str(), "0");
-    assert!(rt; !gate.ran_out.load(Ordering::SeqCst));
+    let (fault, seen) = end_behind(&rt, alloc, &heap, "--workers=3", &gate)?;
+    assert!(rt; fault.is_none() && seen);
     Ok(())
 }
 
@@ -114,12 +109,20 @@ fn others_claim_all_blocks_while_one_worker_is_held(rt: HostRuntime) -> Result<(
     let alloc = rt.alloc();
     let heap = heap_of(alloc, &[], 64 * PAGE)?;
     let gate = Holding::new(alloc, 0, 64, 64)?;
-    let ended = end_behind(&rt, alloc, &heap, "--workers=3", &gate)?;
-    assert_eq!(rt; answer_of(alloc, &ended)?.as_str(), "0");
-    assert!(rt; !gate.ran_out.load(Ordering::SeqCst));
-    assert_eq!(rt; gate.passes.load(Ordering::SeqCst), 64);
-    assert!(rt; gate.has_seen(ended.claims.as_slice()));
+    let (fault, seen) = end_behind(&rt, alloc, &heap, "--workers=3", &gate)?;
+    assert!(rt; fault.is_none() && seen);
+    assert!(rt; gate.passes.load(Ordering::SeqCst) == 64);
     Ok(())
+}
+
+// A heap of eleven new blocks, but for pages with a special space at blocks 3 and 8.
+fn broken_heap(alloc: Global) -> Result<Vec<u8>, AllocError> {
+    let mut broken = int4_page(alloc, &[30, 10, 20])?;
+    put(&mut broken, 16, &[0xF8, 0x1F]);
+    let mut heap = heap_of(alloc, &[], 11 * PAGE)?;
+    put(&mut heap, 3 * PAGE, &broken);
+    put(&mut heap, 8 * PAGE, &broken);
+    Ok(heap)
 }
 
 // The worker of block 3 is held until all blocks were claimed, those behind block 8 too, so that
@@ -127,60 +130,9 @@ fn others_claim_all_blocks_while_one_worker_is_held(rt: HostRuntime) -> Result<(
 #[test]
 fn a_fault_that_is_found_late_is_told_where_it_is_first(rt: HostRuntime) -> Result<(), Fail> {
     let alloc = rt.alloc();
-    let heap = heap_broken_at(alloc, 11, [3, 8])?;
+    let heap = broken_heap(alloc)?;
     let gate = Holding::new(alloc, 3, 11, 11)?;
-    let ended = end_behind(&rt, alloc, &heap, "--workers=1", &gate)?;
-    assert_eq!(rt;
-        answer_of(alloc, &ended)?.as_str(),
-        "5 heap block 3 item 0: cause 1"
-    );
-    assert!(rt; !gate.ran_out.load(Ordering::SeqCst));
-    Ok(())
-}
-
-// Options by which a build has from 1 to 31 workers, also with runs of one row.
-const WORKERS: [&[&str]; 6] = [
-    &["--workers=1"],
-    &["--workers=3"],
-    &["--workers=4"],
-    &["--workers=8"],
-    &["--workers=31"],
-    &["--workers=31", "--run-rows=1"],
-];
-
-// That each of these numbers of workers builds the index that the leader builds alone.
-fn assert_same_index<R: Threads + Sync + Abort>(
-    rt: &R,
-    alloc: Global,
-    name: &str,
-    heap: &[u8],
-    rows: u64,
-) -> Result<(), AllocError> {
-    let alone = Command {
-        options: &["--workers=0"],
-        ..INT4_INDEX
-    };
-    let want = index_built(rt, alloc, name, &alone, heap, rows)?;
-    for options in WORKERS {
-        let command = Command {
-            options,
-            ..INT4_INDEX
-        };
-        let index = index_built(rt, alloc, name, &command, heap, rows)?;
-        assert!(rt; index == want, "{name}");
-    }
-    Ok(())
-}
-
-#[test]
-fn the_index_is_the_same_for_all_workers(rt: HostRuntime) -> Result<(), Fail> {
-    let alloc = rt.alloc();
-    let equal = numbered_rows(alloc, 3000, &[Column::Always(7)])?;
-    assert_same_index(&rt, alloc, "equal keys on 14 blocks", &equal, 3000)?;
-    let distinct = numbered_rows(alloc, 3000, &[Column::Number])?;
-    assert_same_index(&rt, alloc, "other keys on 14 blocks", &distinct, 3000)?;
-    let page = int4_page(alloc, &[30, 10, 20])?;
-    assert_same_index(&rt, alloc, "fewer blocks than workers", &page, 3)?;
-    assert_same_index(&rt, alloc, "no block", &[], 0)?;
+    let (fault, seen) = end_behind(&rt, alloc, &heap, "--workers=1", &gate)?;
+    assert!(rt; seen && matches!(fault, Some(Fault::Heap { block: 3, .. })));
     Ok(())
 }
