@@ -116,14 +116,21 @@ def long_arrays(count, size):
     return b"".join(heaps.data_page([heaps.long_datum(content)]) for content in contents)
 
 
-# 103,000 and 330,000 entries of a row each, and 149,600 rows of one entry.
-ENTRIES = long_arrays(1030, 100)
-MORE_ENTRIES = long_arrays(1100, 300)
+# 330,000 entries of a row each, and 149,600 rows of one entry.
+ENTRIES = long_arrays(1100, 300)
 ONES = 1100 * heaps.data_page(heaps.ARRAYS_ON_PAGE * [heaps.int4_array(1)])
 
-# What the meta page tells of blocks, pages of entries, pages of postings, and entries. Of 330,000 entries 1,135 leaves
-# have 291 each, and three pages above 408 leaves each.
-OF_MORE_ENTRIES = {48: "74040000 73040000 00000000 00000000 1009050000000000"}
+# What the meta page tells of blocks, pages of entries, pages of postings, and entries; the root; and the first and the
+# last entry. A leaf has 291 entries, the last one 6, and a page above names 408 leaves.
+OF_ENTRIES = {
+    48: "74040000 73040000 00000000 00000000 1009050000000000",
+    PAGE + 12: "2400 C81F",
+    2 * PAGE + 12: "A404 B004",
+    2 * PAGE + 8160: "00801000 0100 1800 00000000 00000000 00000000 0100 0000 03000000 0000 0200",
+    1136 * PAGE + 12: "3000 681F",
+    1136 * PAGE + 8040: "00801000 0100 1800 0F090500 00000000 00004B04 0100 0000",
+    1136 * PAGE + 8184: "FFFFFFFF 0000 0200",
+}
 
 # Of one entry the leaf has a tuple that leads to the root of a posting tree, above 20 leaves.
 OF_ONES = {
@@ -148,7 +155,6 @@ MANNERS = [[], ["--workers=31"]]
 OF_RANGES = model.answer(ENDS_OF_RANGES, index=BRIN)
 OF_BLOCKS = model.answer(MANY_BLOCKS)
 OF_DEEP = model.answer(DEEP, TEXT_TABLE, FEW_ON_A_LEAF)
-OF_ENTRIES = model.answer(ENTRIES, ARRAYS_TABLE, GIN)
 
 for options in MANNERS:
     manner = " ".join(options) or "no options"
@@ -161,10 +167,8 @@ for options in MANNERS:
               options=options),
         built(f"large: ten levels, {manner}", DEEP, "btree: 600 rows, 1193 blocks", OF_DEEP, TEXT_TABLE,
               FEW_ON_A_LEAF, options),
-        built(f"large: more than 100,000 entries, {manner}", ENTRIES, "gin: 1030 rows, 356 blocks", OF_ENTRIES,
-              ARRAYS_TABLE, GIN, options),
-        built(f"large: more than 300,000 entries, {manner}", MORE_ENTRIES, "gin: 1100 rows, 1140 blocks",
-              Has(1140, OF_MORE_ENTRIES), ARRAYS_TABLE, GIN, options),
+        built(f"large: more than 100,000 entries, {manner}", ENTRIES, "gin: 1100 rows, 1140 blocks",
+              Has(1140, OF_ENTRIES), ARRAYS_TABLE, GIN, options),
         built(f"large: more than 100,000 rows of an entry, {manner}", ONES, "gin: 149600 rows, 23 blocks",
               Has(23, OF_ONES), ARRAYS_TABLE, GIN, options),
     ]
