@@ -44,8 +44,9 @@ use Rattle.spool.specs.Laws.{HasShortElements, IsShort}
 use Rattle.spool.proofs.Storable.{entries_storable}
 use Rattle.run_merge.specs.Sorted.{AreApart, row_of}
 use Rattle.run_merge.proofs.Sorting.{Pairs, Pairs-from, Pairs-moved, Pairs-to}
-use Rattle.gin_pack.specs.EntryTuple.{most_size}
-use Rattle.gin_pack.specs.Records.{IsEntry, IsEntryRecord}
+use Rattle.gin_file.specs.EntryTuple.{most_size}
+use Rattle.gin_file.specs.Entry.{IsEntry}
+use Rattle.gin_pack.specs.Records.{IsEntryRecord}
 use Rattle.build_leader.specs.Blocks.{IsWhole, block_count, most_blocks, page_of}
 use Rattle.build_leader.specs.Entries.{HasWideEntry, array_of, row_entries, rows_entries}
 use Rattle.build_leader.specs.HeapRows.{AreBlockRows, AreHeapRows, AreRowsOfBlocks, HasSoundBlocks, IsSoundBlock}

@@ -16,7 +16,7 @@ use Rattle.gin_entry.specs.declared.entry.Entry.{Entry}
 use Rattle.gin_entry.specs.Entries.{entry_of}
 use Rattle.gin_entry.specs.EntrySize.{entry_size}
 use Rattle.gin_entry.proofs.Room.{entry_room}
-use Rattle.gin_pack.specs.EntryTuple.{most_size}
+use Rattle.gin_file.specs.EntryTuple.{most_size}
 use Rattle.build_leader.specs.Entries.{HasWideEntry}
 use Rattle.build_leader.specs.WideEntry.{HasTexts}
 

@@ -9,8 +9,9 @@ use Rattle.gin_entry.specs.declared.entry.Entry.{Entry}
 use Rattle.gin_entry.specs.Entries.{HasEntry}
 use Rattle.gin_entry.specs.EntryMap.{ArrayRow, IsGinMap, Posting}
 use Rattle.gin_entry.specs.EntrySize.{entry_size}
-use Rattle.gin_pack.specs.EntryTuple.{most_size}
-use Rattle.gin_pack.specs.File.{HasPostings, IsReadAsPostings}
+use Rattle.gin_file.specs.EntryTuple.{most_size}
+use Rattle.gin_pack.specs.File.{HasPostings}
+use Rattle.gin_file.specs.Reading.{IsReadAsPostings}
 use Rattle.shared_tape.specs.declared.stored.Record.{Record}
 use Rattle.spool.specs.Gathers.{entry_records}
 

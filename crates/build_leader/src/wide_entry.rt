@@ -7,7 +7,7 @@ ghost use Rattle.opclass.specs.Values.{IsValueOf};
 ghost use Rattle.heap_row.specs.Typed.{ElementHasAtMost, HasAtMost};
 ghost use Rattle.gin_entry.specs.Entries.{entry_of};
 ghost use Rattle.gin_entry.specs.EntrySize.{entry_size};
-ghost use Rattle.gin_pack.specs.EntryTuple.{most_size};
+ghost use Rattle.gin_file.specs.EntryTuple.{most_size};
 ghost use Rattle.build_leader.specs.Entries.{HasWideEntry};
 ghost use Rattle.build_leader.specs.WideEntry.{HasTexts};
 

@@ -18,14 +18,14 @@ use Rattle.posting_tree.specs.Reading.Sight.{SeenLeaf}
 use Rattle.posting_tree.specs.Special.{leaf_flag}
 use Rattle.posting_tree.proofs.PostingReading.{all-pages, standing-is-read}
 use Rattle.posting_tree.proofs.TreeReading.{trees-are-read}
-use Rattle.gin_pack.specs.EntryTree.{Item, entry_page, entry_sight, inner_flags, inner_kind, item_size, leaf_kind, link_item}
-use Rattle.gin_pack.specs.EntryTuple.{inner_tuple, most_size}
-use Rattle.gin_pack.specs.File.{HasPostings, IsReadAsPostings, IsStored, ListTree, Stored, Tells, item_of, pages_apart, tuple_of}
-use Rattle.gin_pack.specs.Records.{IsEntry}
-use Rattle.gin_pack.specs.Pass.Filling.{IsTuple}
+use Rattle.gin_file.specs.EntryTree.{Item, entry_page, entry_sight, inner_flags, inner_kind, item_size, leaf_kind, link_item}
+use Rattle.gin_file.specs.EntryTuple.{inner_tuple, most_size, IsTuple}
+use Rattle.gin_pack.specs.File.{HasPostings, IsStored, ListTree, Stored, item_of, pages_apart, tuple_of}
+use Rattle.gin_file.specs.Reading.{IsReadAsPostings, Tells}
+use Rattle.gin_file.specs.Entry.{IsEntry}
 use Rattle.gin_pack.specs.Pass.Placing.{HaveRoom}
 use Rattle.gin_pack.specs.Postings.{IsListed}
-use Rattle.gin_pack.proofs.EntryTuples.{leading-is_tuple, list-is_tuple}
+use Rattle.gin_file.proofs.EntryTuples.{leading-is_tuple, list-is_tuple}
 use Rattle.gin_pack.proofs.Fillings.{fill-is, tuples_of}
 use Rattle.gin_pack.proofs.PageReading.{inner-seen, leaf-seen}
 use Rattle.gin_pack.proofs.Rising.{length-nodes}

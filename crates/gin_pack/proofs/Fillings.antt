@@ -1,12 +1,10 @@
 -- The pages of a level that is filled: what they take, and one tuple more.
-use Rattle.std.proofs.Common.{◌≡◌, ℕ, ◌+◌, ◌-◌, ◌*◌, ◌<◌, ◌≤◌, ◌^◌, List, [], ◌∷◌, ◌++◌, length, refl, sym, ap, ◌∙◌, arith, length-append}
-use Rattle.std.proofs.Common.{subst}
+use Rattle.std.proofs.Common.{◌≡◌, ℕ, ◌+◌, ◌-◌, ◌*◌, ◌<◌, ◌≤◌, ◌^◌, List, [], ◌∷◌, ◌++◌, length, refl, sym, ap, ◌∙◌, arith, length-append, subst}
 use Rattle.std.specs.Prelude.{Some, None, map}
 use Rattle.std.specs.List.{AllByRecursion, AllZip, flat_map, last_or}
 use Rattle.std.proofs.lemmas.Grind.{flat_map-append}
 use Rattle.std.proofs.lemmas.List.Concat.{flat_map-cons}
-use Rattle.std.proofs.lemmas.List.{append_assoc, append-nil}
-use Rattle.std.proofs.lemmas.List.{length-map, map-append}
+use Rattle.std.proofs.lemmas.List.{append_assoc, append-nil, length-map, map-append}
 use Rattle.std.proofs.lemmas.List.Sums.{sum_by-append, sum_by-cons}
 use Rattle.pg_bytes.specs.ItemPage.{item_page, lower_at, space_taken, upper_at}
 use Rattle.pg_bytes.specs.Numbers.{rounded_up}
@@ -17,16 +15,14 @@ use Rattle.gin_entry.specs.declared.entry.Entry.{Entry}
 use Rattle.posting_tree.specs.Levels.{fill, greatest, no_link}
 use Rattle.posting_tree.specs.Special.{special_space}
 use Rattle.pg_bytes.proofs.Writes.{length-number_bytes}
-use Rattle.gin_pack.specs.EntryTree.{Item, entry_page, item_kind, item_size}
+use Rattle.gin_file.specs.EntryTree.{Item, entry_page, item_kind, item_size}
 use Rattle.gin_pack.specs.declared.level.FullPage.{FullPage}
 use Rattle.gin_pack.specs.declared.level.Level.{Level}
-use Rattle.gin_pack.specs.Pass.Filling.{HasItems, HasPut, Holds, IsFilled, IsLevelOf, IsTuple, NamesEntry}
+use Rattle.gin_pack.specs.Pass.Filling.{HasItems, HasPut, Holds, IsFilled, IsLevelOf, NamesEntry}
+use Rattle.gin_file.specs.EntryTuple.{IsTuple}
 use Rattle.gin_pack.specs.Pass.Placing.{ArePagesOf}
+use Rattle.gin_file.proofs.SpecialSpaces.{length-special_space}
 use Rattle.gin_pack.proofs.Places.{all-push, last_or-push, zip-push}
-
-pub length-special_space : (right maxoff flags : ℕ) → length (special_space right maxoff flags) ≡ 8
-unfolding special_space
-length-special_space right maxoff flags = simp (length-append, length-number_bytes) refl
 
 -- the tuples of items
 abbrev pub tuples_of : List Item → List (List ℕ)

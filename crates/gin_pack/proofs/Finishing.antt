@@ -12,18 +12,18 @@ use Rattle.posting_tree.specs.Levels.{AreLevel, IsEmptyRoot, Node, Page, Tree, n
 use Rattle.posting_tree.specs.PostingTree.{inner_kind as list_inner_kind, leaf_kind as list_leaf_kind}
 use Rattle.posting_tree.specs.Reading.{StandIn, block_at}
 use Rattle.posting_tree.specs.Special.{leaf_flag}
-use Rattle.gin_pack.specs.EntryTree.{Item, inner_kind, leaf_kind}
+use Rattle.gin_file.specs.EntryTree.{Item, inner_kind, leaf_kind}
 use Rattle.gin_pack.specs.File.{HasPostings, IsBlockOf, IsStored, ListTree, Stored, item_of, pages_apart}
-use Rattle.gin_pack.specs.Meta.{meta_page}
+use Rattle.gin_file.specs.Meta.{meta_page}
 use Rattle.gin_pack.specs.Pass.Filling.{IsLevelOf}
 use Rattle.gin_pack.specs.Pass.Placing.{AreCut, ArePagesOf, ArePlaceable, IsBehindMeta, KeepsAllButRoot, Rises, pages_above}
 use Rattle.gin_pack.specs.Pass.Storing.{HasStored, IsStoredIn, IsStoring, IsWithin}
 use Rattle.gin_pack.specs.declared.level.FullPage.{FullPage}
-use Rattle.gin_pack.specs.declared.meta.Counts.{Counts}
+use Rattle.gin_file.specs.declared.meta.Counts.{Counts}
 use Rattle.gin_pack.specs.declared.store.EntryStore.{EntryStore}
 use Rattle.gin_pack.proofs.Blocks.{all-append, behind-meta-kept, length-meta-placed, meta-placed, meta-stands, stand-kept}
 use Rattle.gin_pack.proofs.ListTrees.{within-blocks}
-use Rattle.gin_pack.proofs.MetaWrites.{length-meta_page}
+use Rattle.gin_file.proofs.MetaWrites.{length-meta_page}
 use Rattle.gin_pack.proofs.Rising.{are_level, items-of-cut, length-nodes}
 
 -- ---- before the levels rise

@@ -8,7 +8,7 @@ use Rattle.gin_entry.specs.EntryOrder.{entry_order}
 use Rattle.shared_tape.specs.declared.stored.Record.{Record}
 use Rattle.shared_tape.specs.Stored.{record_cmp}
 use Rattle.gin_pack.specs.Postings.{ArePostingsOf, IsTold}
-use Rattle.gin_pack.specs.Records.{IsEntry}
+use Rattle.gin_file.specs.Entry.{IsEntry}
 use Rattle.gin_pack.specs.Pass.Gathering.{Closes, Gathers, HasColumns, HasGathered, IsGathering, IsWritten, Takes}
 use Rattle.gin_pack.specs.declared.posting_writer.PostingWriter.{PostingWriter}
 use Rattle.gin_pack.proofs.Takings.{written-columns}

@@ -11,10 +11,6 @@ pub mod Placements
 pub mod Blocks
 -- how levels rise
 pub mod Rising
--- the tuples of entries
-pub mod EntryTuples
--- the writes of the meta page
-pub mod MetaWrites
 -- the pages of posting trees
 pub mod ListTrees
 -- how entries are stored

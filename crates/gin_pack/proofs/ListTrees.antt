@@ -21,7 +21,7 @@ use Rattle.posting_tree.specs.Special.{special_space}
 use Rattle.gin_pack.specs.File.{IsBlockOf}
 use Rattle.gin_pack.specs.Pass.Storing.{IsWithin}
 use Rattle.gin_pack.proofs.Blocks.{AreSized, FollowFrom, all-append, bytes_of, each-node, length-bytes_of, stand-behind}
-use Rattle.gin_pack.proofs.Fillings.{length-special_space}
+use Rattle.gin_file.proofs.SpecialSpaces.{length-special_space}
 
 -- ---- segments
 

@@ -8,9 +8,9 @@ use Rattle.pg_bytes.specs.Numbers.{number_bytes}
 use Rattle.pg_bytes.specs.PageLayout.{page_header}
 use Rattle.pg_bytes.specs.Places.{written, zeros}
 use Rattle.posting_tree.specs.Special.{special_space}
-use Rattle.gin_pack.specs.EntryTree.{entry_page}
+use Rattle.gin_file.specs.EntryTree.{entry_page}
 use Rattle.gin_pack.specs.Pass.Placing.{HaveRoom}
-use Rattle.gin_pack.proofs.Fillings.{length-special_space}
+use Rattle.gin_file.proofs.SpecialSpaces.{length-special_space}
 
 -- what stands before the special space
 abbrev pub front_of : List (List ℕ) → List ℕ

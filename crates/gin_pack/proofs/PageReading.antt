@@ -16,10 +16,10 @@ use Rattle.gin_entry.specs.declared.entry.Entry.{Entry}
 use Rattle.posting_tree.specs.Levels.{Downlink}
 use Rattle.posting_tree.specs.Reading.Sight.{SeenInner, SeenLeaf}
 use Rattle.posting_tree.specs.Special.{flags_of, leaf_flag, right_of, special_space}
-use Rattle.gin_pack.specs.EntryTree.{entry_page, entry_sight, inner_flags, lines_of, tuple_at, tuples_on}
-use Rattle.gin_pack.specs.EntryTuple.{inner_tuple}
+use Rattle.gin_file.specs.EntryTree.{entry_page, entry_sight, inner_flags, lines_of, tuple_at, tuples_on}
+use Rattle.gin_file.specs.EntryTuple.{inner_tuple}
 use Rattle.gin_pack.specs.Pass.Placing.{HaveRoom}
-use Rattle.gin_pack.proofs.Fillings.{length-special_space}
+use Rattle.gin_file.proofs.SpecialSpaces.{length-special_space}
 use Rattle.gin_pack.proofs.PageParts.{front_of, length-front_of, page-parts}
 use Rattle.gin_pack.proofs.Placings.{leading-parts, rest_of}
 

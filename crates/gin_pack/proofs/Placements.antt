@@ -1,19 +1,18 @@
 -- The pages of a level as they come into a file one by one.
 use Rattle.std.proofs.Common.{◌≡◌, ℕ, zero, suc, ◌+◌, ◌*◌, ◌%◌, ◌<◌, ◌≤◌, List, [], ◌∷◌, ◌++◌, length, take, drop, refl, sym, ap, subst, ◌∙◌, arith, length-append, lt-ltb}
-use Rattle.std.specs.Prelude.{Bool, Option, Some, None, cond, map, nat_lt, if◌then◌else◌}
+use Rattle.std.specs.Prelude.{Bool, Option, Some, None, cond, map, nat_lt, if◌then◌else◌, true, false}
 use Rattle.std.specs.List.{AllByRecursion, AllZip, flat_map, last_or}
 use Rattle.std.proofs.lemmas.List.{append_assoc, append-nil, drop-drop, drop-set-lt, length-take-le, map-append, take_all}
 use Rattle.std.proofs.lemmas.Grind.{flat_map-append}
 use Rattle.std.proofs.Math.Seq.{drop-cons}
 use Rattle.std.proofs.Math.ListN.{get_or, set}
 use Rattle.std.proofs.lemmas.Bool.{le-ltb, ltb-false, ltb-true}
-use Rattle.std.specs.Prelude.{true, false}
 use Rattle.pg_bytes.specs.PageLayout.{page_size}
 use Rattle.opclass.specs.declared.types.ColType.{ColType}
 use Rattle.gin_entry.specs.declared.entry.Entry.{Entry}
 use Rattle.posting_tree.specs.Levels.{Downlink, Kind, Node, Page, first_block, no_link, nodes_linked, nodes_of_level, said, to_say}
 use Rattle.posting_tree.specs.Reading.{blocks_of}
-use Rattle.gin_pack.specs.EntryTree.{Item, entry_page, inner_flags, item_kind, link_item}
+use Rattle.gin_file.specs.EntryTree.{Item, entry_page, inner_flags, item_kind, link_item}
 use Rattle.gin_pack.specs.Pass.Filling.{HasItems, IsFilled, IsLevelOf}
 use Rattle.gin_pack.specs.Pass.Placing.{ArePlaced, CanPlace, LeadsToPage, PlacesPage, leads_to, link_behind, numbered}
 use Rattle.gin_pack.specs.declared.level.FullPage.{FullPage}

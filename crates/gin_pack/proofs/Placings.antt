@@ -1,7 +1,6 @@
 -- How pages of a level come into a file, and what leads to them.
-use Rattle.std.proofs.Common.{◌≡◌, ℕ, ◌+◌, ◌-◌, ◌*◌, ◌%◌, ◌<◌, List, [], ◌∷◌, ◌++◌, length, sym, ap, subst, ◌∙◌, arith}
+use Rattle.std.proofs.Common.{◌≡◌, ℕ, ◌+◌, ◌-◌, ◌*◌, ◌%◌, ◌<◌, List, [], ◌∷◌, ◌++◌, length, sym, ap, subst, ◌∙◌, arith, lt-ltb}
 use Rattle.std.specs.Prelude.{Bool, cond}
-use Rattle.std.proofs.Common.{lt-ltb}
 use Rattle.std.proofs.lemmas.List.{append_assoc}
 use Rattle.pg_bytes.specs.Numbers.{number_bytes}
 use Rattle.pg_bytes.specs.Places.{written, zeros}
@@ -20,8 +19,8 @@ use Rattle.gin_entry.specs.declared.entry.Entry.{Entry}
 use Rattle.gin_entry.specs.EntrySize.{entry_size, key_end, key_kinds, list_place}
 use Rattle.posting_tree.specs.Levels.{no_link}
 use Rattle.posting_tree.specs.Reading.{blocks_of}
-use Rattle.gin_pack.specs.EntryTree.{Item, entry_page, inner_flags}
-use Rattle.gin_pack.specs.EntryTuple.{category_byte, inner_tuple, key_part, leading_tuple}
+use Rattle.gin_file.specs.EntryTree.{Item, entry_page, inner_flags}
+use Rattle.gin_file.specs.EntryTuple.{category_byte, inner_tuple, key_part, leading_tuple}
 use Rattle.gin_pack.specs.Pass.Filling.{HasItems, IsLevelOf, NamesEntry, PutsItem, Takes}
 use Rattle.gin_pack.specs.Pass.Placing.{CanPlace, HaveRoom, LeadsToPage, PlacesPage, link_behind}
 use Rattle.gin_pack.specs.declared.level.FullPage.{FullPage}

@@ -11,7 +11,7 @@ use Rattle.gin_entry.specs.declared.entry.Entry.{Entry}
 use Rattle.gin_entry.specs.EntryMap.{Posting}
 use Rattle.gin_pack.specs.File.{HasPostings, Stored}
 use Rattle.gin_pack.specs.Postings.{ArePostingsOf, IsListed, pairs_of}
-use Rattle.gin_pack.specs.Records.{IsEntry}
+use Rattle.gin_file.specs.Entry.{IsEntry}
 use Rattle.gin_pack.specs.Pass.Gathering.{Begins, Closes, HasColumns, HasGathered, IsWritten, Joins, Takes, with_pointer}
 use Rattle.gin_pack.specs.Pass.Storing.{HasStored, IsStoring, StoresAll}
 use Rattle.gin_pack.specs.Pass.Taking.{HasTaken, IsTaking, KeepsTaken, Receives}

@@ -13,7 +13,7 @@ use Rattle.opclass.specs.declared.types.ColType.{ColType}
 use Rattle.gin_entry.specs.declared.entry.Entry.{Entry}
 use Rattle.posting_tree.specs.Levels.{AreAbove, AreLevel, Downlink, IsPage, Kind, Node, Page, fill, first_block, items_of, no_link, nodes_linked, nodes_of_level, said, to_say, top_of}
 use Rattle.posting_tree.specs.Reading.{StandIn, block_at, blocks_of}
-use Rattle.gin_pack.specs.EntryTree.{Item, entry_page, inner_flags, inner_kind, item_kind, item_size, link_item}
+use Rattle.gin_file.specs.EntryTree.{Item, entry_page, inner_flags, inner_kind, item_kind, item_size, link_item}
 use Rattle.gin_pack.specs.Pass.Filling.{HasItems, IsFilled, IsLevelOf}
 use Rattle.gin_pack.specs.Pass.Placing.{AreCut, ArePagesOf, ArePlaceable, ArePlaced, HasRisen, IsBehindMeta, Rises, numbered}
 use Rattle.gin_pack.specs.declared.level.FullPage.{FullPage}

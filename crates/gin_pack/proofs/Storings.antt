@@ -1,6 +1,5 @@
 -- How an entry is stored behind others.
-use Rattle.std.proofs.Common.{◌≡◌, ℕ, ◌+◌, ◌*◌, ◌%◌, ◌<◌, ◌≤◌, List, [], ◌∷◌, ◌++◌, length, refl, sym, ap, subst, ◌∙◌, arith, length-append}
-use Rattle.std.proofs.Common.{inl, inr}
+use Rattle.std.proofs.Common.{◌≡◌, ℕ, ◌+◌, ◌*◌, ◌%◌, ◌<◌, ◌≤◌, List, [], ◌∷◌, ◌++◌, length, refl, sym, ap, subst, ◌∙◌, arith, length-append, inl, inr}
 use Rattle.std.proofs.lemmas.Bool.{cases_lt}
 use Rattle.std.specs.Prelude.{Option, Some, None, map}
 use Rattle.std.specs.List.{AllByRecursion}
@@ -21,17 +20,17 @@ use Rattle.posting_tree.specs.Levels.{Node, nodes_of}
 use Rattle.posting_tree.specs.PostingTree.{AddsTree, inner_kind as list_inner_kind, leaf_kind as list_leaf_kind}
 use Rattle.posting_tree.specs.Reading.{block_at}
 use Rattle.posting_tree.specs.Special.{leaf_flag}
-use Rattle.gin_pack.specs.EntryTree.{Item}
-use Rattle.gin_pack.specs.EntryTuple.{leading_tuple, list_size, list_tuple, most_size, tree_tuple}
+use Rattle.gin_file.specs.EntryTree.{Item}
+use Rattle.gin_file.specs.EntryTuple.{leading_tuple, list_size, list_tuple, most_size, tree_tuple, IsTuple}
 use Rattle.gin_pack.specs.File.{ListTree, Stored, item_of, pages_apart, tuple_of}
-use Rattle.gin_pack.specs.Records.{IsEntry}
-use Rattle.gin_pack.specs.Pass.Filling.{IsLevelOf, IsTuple, NamesEntry, PutsItem, Takes}
+use Rattle.gin_file.specs.Entry.{IsEntry}
+use Rattle.gin_pack.specs.Pass.Filling.{IsLevelOf, NamesEntry, PutsItem, Takes}
 use Rattle.gin_pack.specs.Postings.{IsListed}
 use Rattle.gin_pack.specs.Pass.Storing.{IsStoredIn, IsStoring, IsWithin, PutsTuple, Stores}
 use Rattle.gin_pack.specs.declared.level.Level.{Level}
 use Rattle.gin_pack.specs.declared.store.EntryStore.{EntryStore}
 use Rattle.gin_pack.proofs.Blocks.{block-kept, bytes_of, stand-kept}
-use Rattle.gin_pack.proofs.EntryTuples.{leading-is_tuple, list-is_tuple}
+use Rattle.gin_file.proofs.EntryTuples.{leading-is_tuple, list-is_tuple}
 use Rattle.gin_pack.proofs.ListTrees.{added-stands, segment-least, sized-tree, within-blocks}
 use Rattle.gin_pack.proofs.Places.{all-push}
 

@@ -8,7 +8,7 @@ use Rattle.gin_entry.specs.declared.entry.Entry.{Entry}
 use Rattle.gin_entry.specs.EntryMap.{Posting}
 use Rattle.gin_entry.specs.EntryOrder.{columns_of}
 use Rattle.gin_entry.proofs.EntryOrders.{same_entry}
-use Rattle.gin_pack.specs.Records.{IsEntry}
+use Rattle.gin_file.specs.Entry.{IsEntry}
 use Rattle.gin_pack.specs.Pass.Gathering.{AreColumns, Closes, HasColumns, IsComing, IsWritten, Takes, with_pointer}
 use Rattle.gin_pack.specs.declared.posting_writer.PostingWriter.{PostingWriter}
 

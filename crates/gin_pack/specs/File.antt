@@ -13,32 +13,15 @@ use Rattle.shared_tape.specs.declared.stored.Record.{Record}
 use Rattle.posting_tree.specs.Levels.{IsRootOf, IsTree, Node, Tree, items_of, no_link, nodes_of}
 use Rattle.posting_tree.specs.PostingTree.{IsPostingTree, inner_kind as list_inner_kind, leaf_kind as list_leaf_kind, IsReadAs}
 use Rattle.posting_tree.specs.Reading.{StandIn, block_at, blocks_of, contents_below}
-use Rattle.gin_pack.specs.EntryTree.{Item, entry_sight, inner_kind, leaf_kind}
-use Rattle.gin_pack.specs.EntryTuple.{list_size, list_tuple, most_size, tree_tuple}
-use Rattle.gin_pack.specs.Meta.{meta_page}
+use Rattle.gin_file.specs.EntryTree.{Item, entry_sight, inner_kind, leaf_kind}
+use Rattle.gin_file.specs.EntryTuple.{list_size, list_tuple, most_size, tree_tuple}
+use Rattle.gin_file.specs.Meta.{meta_page}
 
 -- ---- the map of sorted entries
 
 -- an entry leads to a pointer where a record says so
 abbrev pub Leads : List Record → Entry → RowPtr → Type 0
 Leads records entry pointer = Any (λ row. (row.keys ≡ columns_of entry) × (row.ptr ≡ pointer)) records
-
--- ---- what is read of a file
-
--- A tuple tells an entry and its pointers: it has the list in it, or names the root of the tree in which it stands.
-abbrev pub Tells : ColType → List ℕ → List ℕ → Posting → Type 0
-Tells kind file tuple posting =
-    (tuple ≡ list_tuple kind posting.entry posting.pointers)
-    ⊎ ((root : ℕ) × (tuple ≡ tree_tuple kind posting.entry root) × IsReadAs file root posting.pointers)
-
--- A file is read as these postings: its leaves tell them, from the leftmost along the right links, entries ascend, and
--- so does each list.
-pub record IsReadAsPostings (kind : ColType) (file : List ℕ) (postings : List Posting) : Type 0 where
-  pub leaves : List (List (List ℕ))
-  pub found : contents_below entry_sight file 1 ≡ Some leaves
-  pub told : AllZip (Tells kind file) (flat_map (λ tuples. tuples) leaves) postings
-  pub ascending : IsStrictlySortedBy entry_cmp (map (λ posting. posting.entry) postings)
-  pub lists : All (λ posting. IsPostingList posting.pointers) postings
 
 -- ---- how a file is built
 

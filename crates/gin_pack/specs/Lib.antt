@@ -1,11 +1,5 @@
--- Reading order: from a tuple to the file.
+-- Reading order: from records to the file.
 
--- the tuples of entries
-pub mod EntryTuple
--- the entry tree, and its reading
-pub mod EntryTree
--- the meta page
-pub mod Meta
 -- the records that an index is packed from
 pub mod Records
 -- their postings

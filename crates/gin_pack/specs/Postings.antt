@@ -12,8 +12,8 @@ use Rattle.gin_entry.specs.EntrySize.{entry_size}
 use Rattle.posting_tree.specs.Segments.{AreAscending, HaveBlocks}
 use Rattle.shared_tape.specs.declared.stored.Record.{Record}
 use Rattle.run_merge.specs.Sorted.{row_of}
-use Rattle.gin_pack.specs.EntryTuple.{most_size}
-use Rattle.gin_pack.specs.Records.{IsEntry}
+use Rattle.gin_file.specs.EntryTuple.{most_size}
+use Rattle.gin_file.specs.Entry.{IsEntry}
 
 -- an entry and its pointers that an index may have
 pub record IsListed (kind : ColType) (posting : Posting) : Type 0 where

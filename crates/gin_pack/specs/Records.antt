@@ -1,21 +1,13 @@
 -- The records that a GIN index is packed from.
-use Rattle.std.specs.Prelude.{◌≡◌, ◌⊎◌, ◌^◌, ◌<◌, ◌≤◌}
+use Rattle.std.specs.Prelude.{◌≡◌, ◌^◌, ◌<◌, ◌≤◌}
 use Rattle.opclass.specs.declared.types.ColType.{ColType}
-use Rattle.opclass.specs.declared.value.Elem.{Elem}
-use Rattle.gin_entry.specs.declared.entry.Category.TheVariants.{EmptyItem, NullItem}
 use Rattle.gin_entry.specs.declared.entry.Entry.{Entry}
-use Rattle.gin_entry.specs.Entries.{entry_of, placeholder}
 use Rattle.gin_entry.specs.EntryOrder.{columns_of}
 use Rattle.gin_entry.specs.EntrySize.{entry_size}
 use Rattle.posting_tree.specs.Segments.{IsStorable}
 use Rattle.shared_tape.specs.declared.stored.Record.{Record}
-use Rattle.gin_pack.specs.EntryTuple.{most_size}
-
--- an entry as values have them: of an element, of an array without elements, of a null
-abbrev pub IsEntry : Entry → Type 0
-IsEntry entry =
-    ((element : Elem) × (entry ≡ entry_of element))
-    ⊎ ((entry ≡ placeholder EmptyItem) ⊎ (entry ≡ placeholder NullItem))
+use Rattle.gin_file.specs.Entry.{IsEntry}
+use Rattle.gin_file.specs.EntryTuple.{most_size}
 
 -- a record of an entry whose tuple isn't too large, and of a row whose pointer a posting list may have
 pub record IsEntryRecord (kind : ColType) (row : Record) : Type 0 where

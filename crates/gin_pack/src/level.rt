@@ -1,10 +1,10 @@
 ghost use Rattle.std.specs.Prelude.{◌≡◌, ◌+◌, ◌≤◌, ℕ, List, [], IfOk, OnOk, length};
 ghost use Rattle.opclass.specs.declared.types.ColType.{ColType};
-ghost use Rattle.gin_pack.specs.EntryTree.{Item, entry_page};
+ghost use Rattle.gin_file.specs.EntryTree.{Item, entry_page};
 ghost use Rattle.gin_pack.specs.Pass.Filling.{HasPut, IsFilling, IsLevelOf, KeepsItems, PutsItem, Takes};
 ghost use Rattle.gin_pack.specs.Pass.Placing.{ArePagesOf};
 
-use crate::special::{SPECIAL_BYTES, SPECIAL_PLACE, special_space};
+use gin_file::{SPECIAL_BYTES, SPECIAL_PLACE, special_space};
 use pg_bytes::{LINE_POINTER, PAGE_HEADER, PageBuf};
 use std::alloc::{AllocError, Global};
 use std::mem;

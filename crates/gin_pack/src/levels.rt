@@ -3,11 +3,11 @@ ghost use Rattle.opclass.specs.declared.types.ColType.{ColType};
 ghost use Rattle.pg_bytes.specs.Places.{written};
 ghost use Rattle.pg_bytes.specs.Pointers.{row_pointer_bytes};
 ghost use Rattle.posting_tree.specs.Levels.{no_link};
-ghost use Rattle.gin_pack.specs.EntryTree.{Item, entry_page};
+ghost use Rattle.gin_file.specs.EntryTree.{Item, entry_page};
 ghost use Rattle.gin_pack.specs.Pass.Placing.{AreCut, ArePlaceable, ArePlaced, CanPlace, HaveRoom, LeadsToPage, PlacesPage, Rises, link_behind};
 
 use crate::level::{FullPage, Level};
-use crate::special::{INNER, SPECIAL_PLACE};
+use gin_file::{INNER, SPECIAL_PLACE};
 use pg_bytes::{IndexImage, PageBuf, RowPtr};
 use std::alloc::{AllocError, Global};
 

@@ -1,10 +1,8 @@
-//! The file of a GIN index, built from the sorted entries of its rows.
+//! The packing of a GIN index: its file, built from the sorted entries of its rows.
 //!
 //! A GIN index leads from entries to rows: from each element of an array, and from what stands for
-//! a null, to the pointers of the rows that have it (`gin_entry`). Its file has three kinds of
-//! pages. Block 0 is the meta page, which counts the others. The entry tree, whose root is block 1,
-//! has a tuple for each entry on its leaves. A tuple has the posting list of its entry in it, as
-//! one segment, or names the root of a posting tree in which the list stands (`posting_tree`).
+//! a null, to the pointers of the rows that have it (`gin_entry`). What its file is made of, from
+//! the tuple of an entry up, is `gin_file`'s, and its posting trees are `posting_tree`'s.
 //!
 //! # How sorted entries become a tree
 //!
@@ -35,10 +33,8 @@
 //!
 //! # How it is stated
 //!
-//! The reading of a file (`specs/EntryTree`, `IsReadAsPostings` of `specs/File`) is said of bytes
-//! and knows nothing of how they came: down first children from block 1 to a leaf, along right
-//! links, and each leaf tuple tells an entry and its pointers, from its segment or from its posting
-//! tree. How a file is built (`HasPostings`) is said by the one definition of trees in levels that
+//! The reading of a file (`IsReadAsPostings` of `gin_file`) is said of bytes and knows nothing of
+//! how they came. How a file is built (`HasPostings`) is said by the one definition of trees in levels that
 //! posting trees have too (`posting_tree`): each page but the rightmost of its level has at least
 //! 4,000 bytes of tuples and their line pointers, an item above names a page below by its greatest
 //! entry, and a level has one above it exactly where it has more than one page. `IsGinFile` is
@@ -66,14 +62,11 @@
 //!   than 2^30 blocks or 2^64 entries: no heap needs so many.
 #![tactic(auto)]
 
-mod entry_tuple;
 mod level;
 mod levels;
-mod meta;
 mod packer;
 mod posting_run;
 mod posting_writer;
-mod special;
 mod store;
 
 pub use packer::{EntryPacker, pack};

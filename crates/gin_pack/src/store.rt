@@ -4,19 +4,19 @@ ghost use Rattle.pg_bytes.specs.PageLayout.{page_size};
 ghost use Rattle.gin_entry.specs.EntrySize.{entry_size};
 ghost use Rattle.posting_tree.specs.PostingTree.{AddsTree};
 ghost use Rattle.posting_tree.specs.Segments.{AreAscending, segment};
-ghost use Rattle.gin_pack.specs.EntryTuple.{list_size};
+ghost use Rattle.gin_file.specs.EntryTuple.{list_size};
 ghost use Rattle.gin_pack.specs.File.{HasPostings, Stored};
 ghost use Rattle.gin_pack.specs.Pass.Filling.{NamesEntry};
 ghost use Rattle.gin_pack.specs.Postings.{IsListed};
-ghost use Rattle.gin_pack.specs.Records.{IsEntry};
+ghost use Rattle.gin_file.specs.Entry.{IsEntry};
 ghost use Rattle.gin_pack.specs.Pass.Storing.{HasStored, IsStoring, PutsTuple, Stores};
 
-use crate::entry_tuple::{MOST_SIZE, list_place, put_leading_tuple, put_list_tuple};
 use crate::level::Level;
 use crate::levels::{MOST_BLOCKS, place_levels};
-use crate::meta::Counts;
-use crate::special::{LEAF, SPECIAL_BYTES};
 use gin_entry::Entry;
+use gin_file::{
+    Counts, LEAF, MOST_SIZE, SPECIAL_BYTES, list_place, put_leading_tuple, put_list_tuple,
+};
 use opclass::ColType;
 use pg_bytes::{IndexImage, PageBuf, RowPtr};
 use posting_tree::{build_tree, put_segment};

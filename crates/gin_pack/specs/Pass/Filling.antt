@@ -1,19 +1,13 @@
 -- The pages of a level of the entry tree while its tuples are put, from left to right.
-use Rattle.std.specs.Prelude.{◌≡◌, ℕ, ◌+◌, ◌%◌, ◌≤◌, Some, List, [], ◌∷◌, ◌++◌, length, map}
+use Rattle.std.specs.Prelude.{◌≡◌, ℕ, ◌+◌, ◌≤◌, Some, List, [], ◌∷◌, ◌++◌, length, map}
 use Rattle.std.specs.List.{AllByRecursion, AllZip, flat_map}
 use Rattle.opclass.specs.declared.types.ColType.{ColType}
 use Rattle.gin_entry.specs.declared.entry.Entry.{Entry}
 use Rattle.posting_tree.specs.Levels.{fill, greatest, least_fill, no_link}
-use Rattle.gin_pack.specs.EntryTree.{Item, entry_page, item_kind, page_room}
-use Rattle.gin_pack.specs.EntryTuple.{inner_tuple}
+use Rattle.gin_file.specs.EntryTree.{Item, entry_page, item_kind, page_room}
+use Rattle.gin_file.specs.EntryTuple.{IsTuple, inner_tuple}
 use Rattle.gin_pack.specs.declared.level.FullPage.{FullPage}
 use Rattle.gin_pack.specs.declared.level.Level.{Level}
-
--- a tuple of an entry: it fills whole units of its alignment, and three have room on a page
-pub record IsTuple (tuple : List ℕ) : Type 0 where
-  pub whole : length tuple % 8 ≡ 0
-  pub least : 8 ≤ length tuple
-  pub most : length tuple ≤ 2712
 
 -- bytes are the tuple by which the level above names an entry, whatever the page to which it leads
 pub record NamesEntry (kind : ColType) (entry : Entry) (bytes : List ℕ) : Type 0 where

@@ -9,7 +9,8 @@ use Rattle.gin_entry.specs.EntryOrder.{columns_of, entry_order}
 use Rattle.shared_tape.specs.declared.stored.Record.{Record}
 use Rattle.run_merge.specs.Sorted.{AscendStrictly}
 use Rattle.gin_pack.specs.Postings.{ArePostingsOf}
-use Rattle.gin_pack.specs.Records.{IsEntry, IsEntryRecord}
+use Rattle.gin_file.specs.Entry.{IsEntry}
+use Rattle.gin_pack.specs.Records.{IsEntryRecord}
 use Rattle.gin_pack.specs.declared.posting_writer.PostingWriter.{PostingWriter}
 
 -- ---- one record more

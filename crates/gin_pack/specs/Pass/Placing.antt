@@ -8,7 +8,7 @@ use Rattle.gin_entry.specs.declared.entry.Entry.{Entry}
 use Rattle.posting_tree.specs.Levels.{AreAbove, Downlink, Node, Page, greatest, no_link, nodes_of_level, said, to_say, top_of}
 use Rattle.posting_tree.specs.Reading.{StandIn, block_at, blocks_of}
 use Rattle.posting_tree.specs.Special.{special_start}
-use Rattle.gin_pack.specs.EntryTree.{Item, entry_page, inner_flags, inner_kind, item_kind, link_item}
+use Rattle.gin_file.specs.EntryTree.{Item, entry_page, inner_flags, inner_kind, item_kind, link_item}
 use Rattle.gin_pack.specs.Pass.Filling.{HasItems, HasPut, IsFilled, IsLevelOf}
 use Rattle.gin_pack.specs.declared.level.FullPage.{FullPage}
 use Rattle.gin_pack.specs.declared.level.Level.{Level}

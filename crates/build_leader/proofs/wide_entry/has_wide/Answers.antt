@@ -4,7 +4,7 @@ use Rattle.std.proofs.lemmas.List.Elements.{All-more}
 use Rattle.opclass.specs.declared.value.Elem.{Elem}
 use Rattle.gin_entry.specs.Entries.{entry_of}
 use Rattle.gin_entry.specs.EntrySize.{entry_size}
-use Rattle.gin_pack.specs.EntryTuple.{most_size}
+use Rattle.gin_file.specs.EntryTuple.{most_size}
 use Rattle.build_leader.proofs.WideEntries.{all_small, small_element}
 use Rattle.build_leader.proofs.wide_entry.has_wide.Goals as goal
 

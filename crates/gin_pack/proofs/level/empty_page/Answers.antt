@@ -1,6 +1,6 @@
 use Rattle.std.proofs.Common.{lit≤}
 use Rattle.pg_bytes.proofs.ItemPage.{written-empty_page}
-use Rattle.gin_pack.proofs.Fillings.{length-special_space}
+use Rattle.gin_file.proofs.SpecialSpaces.{length-special_space}
 use Rattle.gin_pack.proofs.level.empty_page.Goals as goal
 
 pub returns : goal.returns

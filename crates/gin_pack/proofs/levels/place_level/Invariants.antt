@@ -1,7 +1,7 @@
 use Rattle.std.proofs.Common.{◌≡◌, ◌+◌, ◌++◌, ◌∷◌, [], ℕ, List, length, drop}
 use Rattle.opclass.specs.declared.types.ColType.{ColType}
 use Rattle.posting_tree.specs.Reading.{blocks_of}
-use Rattle.gin_pack.specs.EntryTree.{Item}
+use Rattle.gin_file.specs.EntryTree.{Item}
 use Rattle.gin_pack.specs.Pass.Placing.{AreCut}
 use Rattle.gin_pack.proofs.Placements.{AreUnderWay}
 use Rattle.gin_pack.proofs.levels.place_level.Given as goal

@@ -1,6 +1,6 @@
 use Rattle.std.proofs.Common.{◌∙◌, ◌++◌, List, ℕ, ap}
 use Rattle.gin_pack.proofs.Storings.{names}
-use Rattle.gin_pack.specs.EntryTuple.{leading_tuple}
+use Rattle.gin_file.specs.EntryTuple.{leading_tuple}
 use Rattle.gin_pack.proofs.store.EntryStore.put_key.Goals as goal
 
 pub returns-clause-names : goal.returns-clause-names

@@ -1,5 +1,5 @@
 use Rattle.std.proofs.Common.{◌∙◌, ◌++◌, List, ℕ, ap, refl, arith}
-use Rattle.gin_pack.specs.EntryTuple.{tree_tuple}
+use Rattle.gin_file.specs.EntryTuple.{tree_tuple}
 use Rattle.gin_pack.proofs.Storings.{few-pointers, puts-tree}
 use Rattle.gin_pack.proofs.store.EntryStore.put_tuple.Goals as goal
 

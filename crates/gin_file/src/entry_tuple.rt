@@ -7,9 +7,9 @@ ghost use Rattle.pg_bytes.specs.Pointers.{row_pointer_bytes};
 ghost use Rattle.tuple_data.specs.Data.{data_of};
 ghost use Rattle.btree_item.specs.Tuple.{bitmap_of, index_tuple, info_of};
 ghost use Rattle.gin_entry.specs.EntrySize.{entry_size, key_kinds, list_place};
-ghost use Rattle.gin_pack.specs.EntryTuple.{category_byte, key_part, leading_tuple, list_tuple};
+ghost use Rattle.gin_file.specs.EntryTuple.{category_byte, key_part, leading_tuple, list_tuple};
 ghost use Rattle.posting_tree.specs.Segments.{segment};
-ghost use Rattle.gin_pack.specs.Records.{IsEntry};
+ghost use Rattle.gin_file.specs.Entry.{IsEntry};
 
 use byteorder::{ByteOrder, LittleEndian};
 use gin_entry::{Category, Entry, entry_size};

@@ -1,6 +1,6 @@
 use Rattle.std.proofs.Common.{arith}
-use Rattle.gin_pack.proofs.EntryTuples.{leading-joined, length-part}
-use Rattle.gin_pack.proofs.entry_tuple.put_leading_tuple.Goals as goal
+use Rattle.gin_file.proofs.EntryTuples.{leading-joined, length-part}
+use Rattle.gin_file.proofs.entry_tuple.put_leading_tuple.Goals as goal
 
 pub fill_up-requires : goal.fill_up-requires
 fill_up-requires c =

@@ -1,6 +1,6 @@
 use Rattle.std.proofs.Common.{arith}
-use Rattle.gin_pack.proofs.EntryTuples.{kinds_of, tuple-filled, values_of}
-use Rattle.gin_pack.proofs.entry_tuple.put_index_tuple.Goals as goal
+use Rattle.gin_file.proofs.EntryTuples.{kinds_of, tuple-filled, values_of}
+use Rattle.gin_file.proofs.entry_tuple.put_index_tuple.Goals as goal
 
 pub returns : goal.returns
 returns c =

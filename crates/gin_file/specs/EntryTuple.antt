@@ -1,5 +1,5 @@
 -- Tuples of the entry tree (GinFormTuple of ginentrypage.c, GinFormInteriorTuple of the same, the head of ginblock.h).
-use Rattle.std.specs.Prelude.{ℕ, ◌+◌, ◌-◌, ◌^◌, ◌==◌, if◌then◌else◌, List, [], ◌∷◌, ◌++◌, length}
+use Rattle.std.specs.Prelude.{ℕ, ◌+◌, ◌-◌, ◌%◌, ◌^◌, ◌≡◌, ◌≤◌, ◌==◌, if◌then◌else◌, List, [], ◌∷◌, ◌++◌, length}
 use Rattle.pg_bytes.specs.Numbers.{rounded_up}
 use Rattle.pg_bytes.specs.Places.{zeros}
 use Rattle.pg_bytes.specs.declared.row_ptr.RowPtr.{RowPtr}
@@ -16,6 +16,12 @@ use Rattle.posting_tree.specs.Segments.{segment}
 -- the most bytes of an entry's tuple: three have room on a page (GinMaxItemSize)
 abbrev pub most_size : ℕ
 most_size = 2712
+
+-- a tuple of an entry: it fills whole units of its alignment, and three have room on a page
+pub record IsTuple (tuple : List ℕ) : Type 0 where
+  pub whole : length tuple % 8 ≡ 0
+  pub least : 8 ≤ length tuple
+  pub most : length tuple ≤ 2712
 
 -- the byte behind a placeholder's null that tells its category; a key has none
 abbrev pub category_byte : Entry → List ℕ

@@ -1,5 +1,5 @@
 ghost use Rattle.std.specs.Prelude.{◌≡◌, IfOk};
-ghost use Rattle.gin_pack.specs.Meta.{meta_fields, meta_page};
+ghost use Rattle.gin_file.specs.Meta.{meta_fields, meta_page};
 
 use crate::special::{META, NO_LINK, SPECIAL_BYTES, SPECIAL_PLACE, special_space};
 use byteorder::{ByteOrder, LittleEndian};

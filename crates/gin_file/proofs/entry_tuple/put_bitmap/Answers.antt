@@ -1,7 +1,7 @@
 use Rattle.std.proofs.Common.{◌∙◌, ◌++◌, List, ℕ, ap, sym}
 use Rattle.tuple_data.specs.Nulls.{has_null}
-use Rattle.gin_pack.proofs.EntryTuples.{null-bitmap}
-use Rattle.gin_pack.proofs.entry_tuple.put_bitmap.Goals as goal
+use Rattle.gin_file.proofs.EntryTuples.{null-bitmap}
+use Rattle.gin_file.proofs.entry_tuple.put_bitmap.Goals as goal
 
 pub returns : goal.returns
 returns c =

@@ -8,9 +8,9 @@ use Rattle.pg_bytes.specs.PageLayout.{empty_page, page_header}
 use Rattle.pg_bytes.specs.Places.{written, zeros}
 use Rattle.posting_tree.specs.Levels.{no_link}
 use Rattle.posting_tree.specs.Special.{meta_flag, special_space}
-use Rattle.gin_pack.proofs.Fillings.{length-special_space}
-use Rattle.gin_pack.specs.Meta.{meta_fields, meta_page}
-use Rattle.gin_pack.specs.declared.meta.Counts.{Counts}
+use Rattle.gin_file.proofs.SpecialSpaces.{length-special_space}
+use Rattle.gin_file.specs.Meta.{meta_fields, meta_page}
+use Rattle.gin_file.specs.declared.meta.Counts.{Counts}
 
 pub length-meta_fields : (counts : Counts) → length (meta_fields counts) ≡ 56
 unfolding meta_fields

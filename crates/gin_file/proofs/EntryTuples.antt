@@ -24,9 +24,8 @@ use Rattle.btree_item.proofs.Sizes.{length-index_tuple}
 use Rattle.gin_entry.specs.declared.entry.Entry.{Entry}
 use Rattle.gin_entry.specs.EntrySize.{entry_size, key_data, key_end, key_kinds, list_place}
 use Rattle.posting_tree.specs.Segments.{segment}
-use Rattle.gin_pack.specs.EntryTuple.{category_byte, key_part, leading_tuple, list_end, list_front, list_size, list_tuple}
-use Rattle.gin_pack.specs.Pass.Filling.{IsTuple}
-use Rattle.gin_pack.specs.Records.{IsEntry}
+use Rattle.gin_file.specs.EntryTuple.{category_byte, key_part, leading_tuple, list_end, list_front, list_size, list_tuple, IsTuple}
+use Rattle.gin_file.specs.Entry.{IsEntry}
 
 -- ---- keys and placeholders
 

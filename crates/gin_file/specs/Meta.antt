@@ -5,7 +5,7 @@ use Rattle.pg_bytes.specs.Places.{zeros}
 use Rattle.pg_bytes.specs.PageLayout.{header_size, page_header}
 use Rattle.posting_tree.specs.Levels.{no_link}
 use Rattle.posting_tree.specs.Special.{meta_flag, special_space, special_start}
-use Rattle.gin_pack.specs.declared.meta.Counts.{Counts}
+use Rattle.gin_file.specs.declared.meta.Counts.{Counts}
 
 -- GIN_CURRENT_VERSION
 abbrev pub gin_version : ℕ

@@ -1,6 +1,6 @@
 use Rattle.std.proofs.Common.{arith}
-use Rattle.gin_pack.proofs.EntryTuples.{length-part, list-joined}
-use Rattle.gin_pack.proofs.entry_tuple.put_list_tuple.Goals as goal
+use Rattle.gin_file.proofs.EntryTuples.{length-part, list-joined}
+use Rattle.gin_file.proofs.entry_tuple.put_list_tuple.Goals as goal
 
 pub fill_up-requires : goal.fill_up-requires
 fill_up-requires c =

@@ -1,5 +1,5 @@
-use Rattle.gin_pack.proofs.EntryTuples.{part-joined}
-use Rattle.gin_pack.proofs.entry_tuple.put_key_part.Goals as goal
+use Rattle.gin_file.proofs.EntryTuples.{part-joined}
+use Rattle.gin_file.proofs.entry_tuple.put_key_part.Goals as goal
 
 pub returns : goal.returns
 returns c =

@@ -1,5 +1,5 @@
-use Rattle.gin_pack.proofs.MetaWrites.{written-meta_page}
-use Rattle.gin_pack.proofs.meta.Counts.meta_page.Goals as goal
+use Rattle.gin_file.proofs.MetaWrites.{written-meta_page}
+use Rattle.gin_file.proofs.meta.Counts.meta_page.Goals as goal
 
 pub returns : goal.returns
 returns c =

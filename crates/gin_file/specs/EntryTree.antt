@@ -11,7 +11,7 @@ use Rattle.posting_tree.specs.Levels.{Downlink, Kind}
 use Rattle.posting_tree.specs.Reading.{Sight}
 use Rattle.posting_tree.specs.Reading.Sight.{SeenInner, SeenLeaf, SeenOther}
 use Rattle.posting_tree.specs.Special.{flags_of, leaf_flag, right_of, special_space, special_start}
-use Rattle.gin_pack.specs.EntryTuple.{inner_tuple}
+use Rattle.gin_file.specs.EntryTuple.{inner_tuple}
 
 -- ---- pages
 

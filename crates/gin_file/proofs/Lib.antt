@@ -1,0 +1,7 @@
+-- Cited by gin_pack: that tuples have their sizes, the meta page's length, and the special space's.
+-- the special space of a GIN page
+pub mod SpecialSpaces
+-- the tuples of entries
+pub mod EntryTuples
+-- the writes of the meta page
+pub mod MetaWrites

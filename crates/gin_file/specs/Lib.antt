@@ -1,0 +1,12 @@
+-- Reading order: from an entry to the file.
+
+-- the entries that an index has
+pub mod Entry
+-- their tuples
+pub mod EntryTuple
+-- the entry tree
+pub mod EntryTree
+-- the meta page
+pub mod Meta
+-- what is read of the file
+pub mod Reading
