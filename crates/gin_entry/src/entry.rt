@@ -1,4 +1,4 @@
-ghost use Rattle.std.specs.Prelude.{◌≡◌, IfOk};
+ghost use Rattle.std.specs.Prelude.{◌≡◌, ◌≢◌, IfOk, MatchOption};
 ghost use Rattle.gin_entry.specs.Entries.{entry_of, key_entry, number_of_category, placeholder};
 
 use opclass::{Elem, KeyVal};
@@ -19,6 +19,8 @@ pub enum Category {
 }
 
 impl Category {
+    ghost use Rattle.gin_entry.specs.declared.entry.Category.{Category};
+
     /// The number by which an entry and its tuple tell the category.
     pub fn number(self) -> u8
         ensures { result ≡ number_of_category self }
@@ -28,6 +30,21 @@ impl Category {
             Category::NullKey => 1,
             Category::EmptyItem => 2,
             Category::NullItem => 3,
+        }
+    }
+
+    /// The category of a number. None comes exactly where no category has it.
+    pub fn of(number: u8) -> Option<Category>
+        ensures { MatchOption result
+            ((category : Category) → number_of_category category ≢ number)
+            (λ category. number_of_category category ≡ number) }
+    {
+        match number {
+            0 => Some(Category::Key),
+            1 => Some(Category::NullKey),
+            2 => Some(Category::EmptyItem),
+            3 => Some(Category::NullItem),
+            _ => None,
         }
     }
 }

@@ -65,20 +65,20 @@ no-data (kind ∷ []) = ap (λ (l : List ℕ). l ++ []) (no-datum (facts_of kind
 no-data (kind ∷ after ∷ kinds) = ap (λ (l : List ℕ). l ++ []) (no-datum (facts_of kind).width (facts_of kind).alignment 0)
 
 -- where a key's end is, and a placeholder's
-key-ends : (kind : ColType) (entry : Entry) → entry.category ≡ 0 → key_end kind entry ≡ rounded_up 8 (8 + length (key_data kind entry))
+pub key-ends : (kind : ColType) (entry : Entry) → entry.category ≡ 0 → key_end kind entry ≡ rounded_up 8 (8 + length (key_data kind entry))
 key-ends kind entry is = ap (λ (n : ℕ). if n == 0 then rounded_up 8 (8 + length (key_data kind entry)) else 17) is
 
-placeholder-ends : (kind : ColType) (entry : Entry) → 1 ≤ entry.category → key_end kind entry ≡ 17
+pub placeholder-ends : (kind : ColType) (entry : Entry) → 1 ≤ entry.category → key_end kind entry ≡ 17
 placeholder-ends kind entry some = by (entry.category) some
   where
     by : (n : ℕ) → 1 ≤ n → (if n == 0 then rounded_up 8 (8 + length (key_data kind entry)) else 17) ≡ 17
     by zero some = absurd (omega arith)
     by (suc n) some = ap (λ (b : Bool). cond b (rounded_up 8 (8 + length (key_data kind entry))) 17) (eqb-suc-zero n)
 
-key-byte : (entry : Entry) → entry.category ≡ 0 → category_byte entry ≡ []
+pub key-byte : (entry : Entry) → entry.category ≡ 0 → category_byte entry ≡ []
 key-byte entry is = ap (λ (n : ℕ). if n == 0 then [] else entry.category ∷ []) is
 
-placeholder-byte : (entry : Entry) → 1 ≤ entry.category → category_byte entry ≡ entry.category ∷ []
+pub placeholder-byte : (entry : Entry) → 1 ≤ entry.category → category_byte entry ≡ entry.category ∷ []
 placeholder-byte entry some = by entry.category some
   where
     by : (n : ℕ) → 1 ≤ n → (if n == 0 then [] else entry.category ∷ []) ≡ entry.category ∷ []

@@ -1,7 +1,13 @@
--- Cited by gin_pack: that tuples have their sizes, the meta page's length, and the special space's.
+-- Cited by gin_pack: that tuples and segments have their sizes, the meta page's length, and the special space's.
 -- the special space of a GIN page
 pub mod SpecialSpaces
 -- the tuples of entries
 pub mod EntryTuples
 -- the writes of the meta page
 pub mod MetaWrites
+-- the segment at the front of bytes
+pub mod SegmentFronts
+-- the entry at the front of a tuple
+mod TupleFronts
+-- what a tuple says
+mod EntryItems

@@ -4,9 +4,13 @@
 pub mod Entry
 -- their tuples
 pub mod EntryTuple
+-- what a tuple says, and which tuples there are
+pub mod Item
 -- the entry tree
 pub mod EntryTree
 -- the meta page
 pub mod Meta
 -- what is read of the file
 pub mod Reading
+-- what the reading of a tuple keeps
+pub mod Pass

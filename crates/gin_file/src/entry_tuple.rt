@@ -1,4 +1,4 @@
-ghost use Rattle.std.specs.Prelude.{◌≡◌, ◌+◌, ◌-◌, ◌*◌, ◌≤◌, List, [], ◌∷◌, ◌++◌, OnOk, if◌then◌else◌, length};
+ghost use Rattle.std.specs.Prelude.{◌≡◌, ◌+◌, ◌-◌, ◌*◌, ◌^◌, ◌<◌, ◌≤◌, List, [], ◌∷◌, ◌++◌, OnOk, if◌then◌else◌, length};
 ghost use Rattle.opclass.specs.Types.{facts_of};
 ghost use Rattle.pg_bytes.specs.Numbers.{number_bytes, rounded_up};
 ghost use Rattle.pg_bytes.specs.declared.row_ptr.RowPtr.{RowPtr};
@@ -23,14 +23,14 @@ use tuple_data::{has_null, has_variable, put_data};
 pub const MOST_SIZE: usize = 2712;
 
 // The bytes of an index tuple's head, and where `t_info` stands in it.
-const HEAD: usize = 8;
+pub(crate) const HEAD: usize = 8;
 
-const T_INFO: usize = 6;
+pub(crate) const T_INFO: usize = 6;
 
 // The marks of `t_info` (`itup.h`): some column of variable width has a value, some value is null.
 const HAS_VARIABLE: u16 = 0x4000;
 
-const HAS_NULL: u16 = 0x8000;
+pub(crate) const HAS_NULL: u16 = 0x8000;
 
 // A null bitmap, where the one column is null, and the zeros behind it.
 const NULL_BITMAP: [u8; 8] = [0; 8];
@@ -73,8 +73,8 @@ pub fn put_list_tuple(
 }
 
 /// Puts the tuple of an entry that leads to a block, behind the bytes of a buffer: to the root of
-/// its posting tree, or above the leaves to a page (`GinFormInteriorTuple`). An error means that no
-/// memory was left, and leaves a part.
+/// its posting tree, or above the leaves to a page (`GinFormInteriorTuple`). `t_info` has 13 bits
+/// for its size. An error means that no memory was left, and leaves a part.
 pub fn put_leading_tuple(
     out: &mut Vec<u8>,
     kind: ColType,
@@ -82,7 +82,7 @@ pub fn put_leading_tuple(
     front: RowPtr,
 ) -> Result<(), AllocError>
     requires entry { IsEntry entry.now }
-    requires small { entry_size kind entry.now ≤ 2712 }
+    requires small { entry_size kind entry.now < 2 ^ 13 }
     ensures { OnOk result (out.new.items ≡ out.old.items ++ leading_tuple kind entry.now front) }
 {
     let end = out.len() + entry_size(kind, entry) as usize;
@@ -94,7 +94,7 @@ pub fn put_leading_tuple(
 /// Where the posting list of an entry begins in its tuple.
 pub fn list_place(kind: ColType, entry: &Entry) -> usize
     requires entry { IsEntry entry.now }
-    requires small { entry_size kind entry.now ≤ 2712 }
+    requires small { entry_size kind entry.now < 2 ^ 13 }
     ensures { result ≡ list_place kind entry.now }
 {
     if entry.category == Category::Key.number() {
@@ -113,8 +113,8 @@ fn put_key_part(
     size: u16,
 ) -> Result<(), AllocError>
     requires entry { IsEntry entry.now }
-    requires small { entry_size kind entry.now ≤ 2712 }
-    requires size { size ≤ 2712 }
+    requires small { entry_size kind entry.now < 2 ^ 13 }
+    requires size { size < 2 ^ 13 }
     ensures { OnOk result (out.new.items ≡ out.old.items ++ key_part kind entry.now front size) }
 {
     put_index_tuple(out, kind, entry, front, size)?;
@@ -143,8 +143,8 @@ fn put_index_tuple(
     size: u16,
 ) -> Result<(), AllocError>
     requires entry { IsEntry entry.now }
-    requires small { entry_size kind entry.now ≤ 2712 }
-    requires size { size ≤ 2712 }
+    requires small { entry_size kind entry.now < 2 ^ 13 }
+    requires size { size < 2 ^ 13 }
     ensures { OnOk result (out.new.items
         ≡ out.old.items ++ index_tuple front
         (info_of size (key_kinds (facts_of kind).form) (entry.now.key ∷ []))
@@ -173,7 +173,7 @@ fn put_bitmap(out: &mut Vec<u8>, entry: &Entry) -> Result<(), AllocError>
 // Puts the data of an entry's key.
 fn put_key(out: &mut Vec<u8>, kind: ColType, entry: &Entry) -> Result<(), AllocError>
     requires entry { IsEntry entry.now }
-    requires small { entry_size kind entry.now ≤ 2712 }
+    requires small { entry_size kind entry.now < 2 ^ 13 }
     ensures { OnOk result (out.new.items
         ≡ out.old.items ++ data_of (key_kinds (facts_of kind).form) (entry.now.key ∷ [])) }
 {

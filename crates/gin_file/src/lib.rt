@@ -30,10 +30,12 @@
 //! (`gin_pack`). A call that finds no memory leaves a part of what it was to put.
 #![tactic(auto)]
 
+mod entry_reading;
 mod entry_tuple;
 mod meta;
 mod special;
 
+pub use entry_reading::{EntryItem, read_entry};
 pub use entry_tuple::{MOST_SIZE, list_place, put_leading_tuple, put_list_tuple};
 pub use meta::Counts;
 pub use special::{INNER, LEAF, META, NO_LINK, SPECIAL_BYTES, SPECIAL_PLACE, special_space};

@@ -1,4 +1,4 @@
--- Posting lists: how long a segment is at least, and the pages of a posting tree.
+-- The pages of a posting tree.
 use Rattle.std.proofs.Common.{◌≡◌, ℕ, suc, ◌+◌, ◌-◌, ◌*◌, ◌/◌, ◌%◌, ◌≤◌, Bool, true, false, List, [], ◌∷◌, ◌++◌, length, refl, sym, ap, subst, ◌∙◌, add-one, arith, length-append, inl, inr}
 use Rattle.std.specs.Prelude.{cond, nat_lt, Option, map}
 use Rattle.std.specs.List.{AllByRecursion, flat_map, range_with_len, sum_by}
@@ -22,39 +22,6 @@ use Rattle.gin_pack.specs.File.{IsBlockOf}
 use Rattle.gin_pack.specs.Pass.Storing.{IsWithin}
 use Rattle.gin_pack.proofs.Blocks.{AreSized, FollowFrom, all-append, bytes_of, each-node, length-bytes_of, stand-behind}
 use Rattle.gin_file.proofs.SpecialSpaces.{length-special_space}
-
--- ---- segments
-
--- a number takes a byte at least
-varbyte-least : (x : ℕ) → 1 ≤ length (varbyte x)
-unfolding varbyte
-varbyte-least x =
-    elim (nat_lt x 128) as (λ (b : Bool). 1 ≤ length (cond b (x ∷ []) ((x % 128 + 128) ∷ groups 6 (x / 128)))) [
-      | true ↦ omega arith
-      | false ↦ omega arith
-    ]
-
-deltas-least : (number : ℕ) (ptrs : List RowPtr) → length ptrs ≤ length (deltas_behind number ptrs)
-deltas-least number [] = omega arith
-deltas-least number (ptr ∷ ptrs) =
-    let first = varbyte-least (number_of ptr - number) in
-    let rest = deltas-least (number_of ptr) ptrs in
-    let both = length-append (varbyte (number_of ptr - number)) (deltas_behind (number_of ptr) ptrs) in
-    omega arith
-
--- a segment takes a byte for each pointer at least
-pub segment-least : (ptrs : List RowPtr) → length ptrs ≤ length (segment ptrs)
-unfolding segment_from
-segment-least [] = omega arith
-segment-least (first ∷ others) =
-    let ds : List ℕ = deltas_behind (number_of first) others in
-    let least = deltas-least (number_of first) others in
-    let six = length-row_pointer first in
-    let two = length-number_bytes 2 (length ds) in
-    let a = length-append (row_pointer_bytes first) (number_bytes 2 (length ds) ++ (ds ++ zeros (length ds % 2))) in
-    let b = length-append (number_bytes 2 (length ds)) (ds ++ zeros (length ds % 2)) in
-    let c = length-append ds (zeros (length ds % 2)) in
-    omega arith
 
 -- ---- the pages of a posting tree
 

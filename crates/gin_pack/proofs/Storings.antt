@@ -31,7 +31,8 @@ use Rattle.gin_pack.specs.declared.level.Level.{Level}
 use Rattle.gin_pack.specs.declared.store.EntryStore.{EntryStore}
 use Rattle.gin_pack.proofs.Blocks.{block-kept, bytes_of, stand-kept}
 use Rattle.gin_file.proofs.EntryTuples.{leading-is_tuple, list-is_tuple}
-use Rattle.gin_pack.proofs.ListTrees.{added-stands, segment-least, sized-tree, within-blocks}
+use Rattle.gin_file.proofs.SegmentFronts.{segment-least}
+use Rattle.gin_pack.proofs.ListTrees.{added-stands, sized-tree, within-blocks}
 use Rattle.gin_pack.proofs.Places.{all-push}
 
 -- ---- nothing yet

@@ -1,21 +1,21 @@
 -- A GIN file and the map that it is (ginbuild of gininsert.c): the meta page, the entry tree with its root at block 1, and
 -- the posting trees of entries with long lists.
-use Rattle.std.specs.Prelude.{◌≡◌, ◌⊎◌, ℕ, ◌+◌, ◌*◌, ◌<◌, ◌≤◌, Option, Some, None, List, length, map, All, Any}
-use Rattle.std.specs.List.{AllByRecursion, AllZip, flat_map, sum_by}
-use Rattle.std.specs.List.Sorted.{IsStrictlySortedBy}
+use Rattle.std.specs.Prelude.{◌≡◌, ℕ, ◌+◌, ◌*◌, ◌<◌, ◌≤◌, Option, Some, None, List, length, map, Any}
+use Rattle.std.specs.List.{AllByRecursion, sum_by}
 use Rattle.pg_bytes.specs.PageLayout.{page_size}
 use Rattle.pg_bytes.specs.declared.row_ptr.RowPtr.{RowPtr}
 use Rattle.opclass.specs.declared.types.ColType.{ColType}
 use Rattle.gin_entry.specs.declared.entry.Entry.{Entry}
-use Rattle.gin_entry.specs.EntryMap.{IsMapOf, IsPostingList, Posting}
-use Rattle.gin_entry.specs.EntryOrder.{columns_of, entry_cmp}
+use Rattle.gin_entry.specs.EntryMap.{IsMapOf, Posting}
+use Rattle.gin_entry.specs.EntryOrder.{columns_of}
 use Rattle.shared_tape.specs.declared.stored.Record.{Record}
 use Rattle.posting_tree.specs.Levels.{IsRootOf, IsTree, Node, Tree, items_of, no_link, nodes_of}
-use Rattle.posting_tree.specs.PostingTree.{IsPostingTree, inner_kind as list_inner_kind, leaf_kind as list_leaf_kind, IsReadAs}
-use Rattle.posting_tree.specs.Reading.{StandIn, block_at, blocks_of, contents_below}
-use Rattle.gin_file.specs.EntryTree.{Item, entry_sight, inner_kind, leaf_kind}
+use Rattle.posting_tree.specs.PostingTree.{IsPostingTree, inner_kind as list_inner_kind, leaf_kind as list_leaf_kind}
+use Rattle.posting_tree.specs.Reading.{StandIn, block_at, blocks_of}
+use Rattle.gin_file.specs.EntryTree.{Item, inner_kind, leaf_kind}
 use Rattle.gin_file.specs.EntryTuple.{list_size, list_tuple, most_size, tree_tuple}
 use Rattle.gin_file.specs.Meta.{meta_page}
+use Rattle.gin_file.specs.Reading.{IsReadAsPostings}
 
 -- ---- the map of sorted entries
 

@@ -9,3 +9,9 @@ pub mod Room
 pub mod NullBits
 -- what the pass that puts the data keeps
 pub mod PutPass
+-- the value that bytes are
+mod Scalars
+-- a value that stands at a place
+mod ScalarPieces
+-- what the pass that reads the data keeps
+mod ReadPass

@@ -6,3 +6,5 @@ pub mod Data
 pub mod Nulls
 -- what holds of all these
 pub mod Laws
+-- what is read of the data
+pub mod Reading

@@ -63,7 +63,7 @@ fn end_of_variable(place: u64, count: u64) -> u64
 }
 
 // The next multiple of an alignment (`att_align_nominal` of `tupmacs.h`).
-fn aligned(place: u64, alignment: u8) -> u64
+pub(crate) fn aligned(place: u64, alignment: u8) -> u64
     requires known { IsAlignment alignment }
     requires fits { place < 2 ^ 63 }
     ensures { result ≡ rounded_up alignment place }

@@ -29,7 +29,11 @@ mod data;
 mod datum;
 mod laws;
 mod nulls;
+mod reading;
+mod scalar;
 
 pub use data::{data_size, put_data};
 pub use laws::{columns_behind_follow, data_take_their_room, front_columns_have_the_front};
 pub use nulls::{has_null, has_variable, null_bits};
+pub use reading::read_data;
+pub use scalar::Scalar;
