@@ -22,18 +22,22 @@
 //! judges a page that it reads: that is `heap_page`'s.
 #![tactic(auto)]
 
+mod blocks;
 mod header;
 mod image;
 mod items;
+mod laws;
 mod line_ptr;
 mod numbers;
 mod page;
 mod page_buf;
 mod row_ptr;
 
+pub use blocks::Blocks;
 pub use header::{PAGE_VERSION, PD_FLAGS, PD_LOWER, PD_PAGESIZE_VERSION, PD_SPECIAL, PD_UPPER};
 pub use image::IndexImage;
 pub use items::{Bytes, Items, RowPtrs};
+pub use laws::{items_are_read, lowest_is_read_first};
 pub use line_ptr::{LinePtr, LineState};
 pub use numbers::{al2, al8, i64_at, u16_at, u32_at, zero_bytes};
 pub use page::Page;
