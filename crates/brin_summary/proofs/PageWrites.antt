@@ -4,7 +4,7 @@ use Rattle.std.proofs.lemmas.List.{append_assoc, append-nil, length-take-le, tak
 use Rattle.std.proofs.lemmas.Grind.{flat_map-append}
 use Rattle.std.specs.List.{flat_map}
 use Rattle.pg_bytes.proofs.ItemPage.{length-page_header, written-empty_page, written-lower}
-use Rattle.pg_bytes.proofs.Writes.{length-number_bytes, length-zeros, written-first, written-middle, zeros-append}
+use Rattle.pg_bytes.proofs.Writes.{length-number_bytes, length-zeros, written-middle, zeros-append}
 use Rattle.pg_bytes.specs.Numbers.{number_bytes}
 use Rattle.pg_bytes.specs.PageLayout.{empty_page, page_header}
 use Rattle.pg_bytes.specs.Places.{written, zeros}
@@ -139,10 +139,3 @@ written-next pointers at d inside few =
     ap (λ (n : ℕ). written (row_pointer_bytes (get_or pointers at d)) (24 + 6 * n) (revmap_page (take at pointers))) (sym front)
     ∙ written-pointer (take at pointers) (get_or pointers at d) (omega arith)
     ∙ ap revmap_page (sym (take_more pointers at d inside))
-
--- a pointer over six bytes
-pub written-six : (pointer : RowPtr) (bytes : List ℕ) → length bytes ≡ 6 → written (row_pointer_bytes pointer) 0 bytes ≡ row_pointer_bytes pointer
-written-six pointer bytes six =
-    ap (written (row_pointer_bytes pointer) 0) (sym (append-nil bytes))
-    ∙ written-first (row_pointer_bytes pointer) bytes [] (length-pointer pointer ∙ sym six)
-    ∙ append-nil (row_pointer_bytes pointer)

@@ -1,8 +1,9 @@
 -- What holds of summaries and of the file, whatever the rows are.
-use Rattle.std.specs.Prelude.{◌≡◌, ◌≢◌, ◌⊎◌, ◌↔◌, ℕ, ◌+◌, ◌-◌, ◌*◌, ◌<◌, ◌≤◌, true, false, Some, None, List, [], ◌∷◌, ◌++◌, length, map, take, drop, replicate, All, Contains, slice_get}
+use Rattle.std.specs.Prelude.{◌≡◌, ◌≢◌, ◌⊎◌, ◌↔◌, ℕ, ◌+◌, ◌-◌, ◌*◌, ◌<◌, ◌≤◌, true, false, Some, None, List, [], ◌∷◌, ◌++◌, length, map, take, replicate, All, Contains, slice_get}
 use Rattle.std.specs.List.{flat_map, sum_by}
 use Rattle.std.specs.List.Sorted.{IsPermutation}
 use Rattle.std.specs.declared.cmp.Ordering.TheVariants.{Greater}
+use Rattle.pg_bytes.specs.Blocks.{block_at}
 use Rattle.opclass.specs.declared.value.KeyVal.{KeyVal}
 use Rattle.opclass.specs.declared.value.KeyVal.TheVariants.{Nil}
 use Rattle.opclass.specs.Order.{column_cmp}
@@ -149,10 +150,6 @@ PointersLeadToTheTuples =
     → LeadsTo first (pages_of tuples) pointer tuple
 
 -- ---- the file
-
--- the block of this number of a file
-unfoldable pub block_at : ℕ → List ℕ → List ℕ
-block_at block file = take page_size (drop (page_size * block) file)
 
 -- the pointers to the tuples of ranges
 abbrev pub range_pointers : List ColType → ℕ → List RangeSummary → List RowPtr

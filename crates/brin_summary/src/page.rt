@@ -1,5 +1,4 @@
 ghost use Rattle.std.specs.Prelude.{◌≡◌, ◌≤◌, [], length, IfOk};
-ghost use Rattle.pg_bytes.specs.Pointers.{row_pointer_bytes};
 ghost use Rattle.brin_summary.specs.Page.{meta_fields, meta_page, regular_page, revmap_page, special_space};
 
 use byteorder::{ByteOrder, LittleEndian};
@@ -59,7 +58,7 @@ pub fn revmap_page(alloc: Global, pointers: &[RowPtr]) -> Result<PageBuf, AllocE
     let mut page = PageBuf::new(alloc, SPECIAL_BYTES as u16)?;
     page.put_slice(SPECIAL_PLACE, &special_space(REVMAP));
     for (at, pointer) in pointers.iter().enumerate() {
-        page.put_slice(PAGE_HEADER + POINTER * at, &pointer_bytes(pointer));
+        page.put_slice(PAGE_HEADER + POINTER * at, &pointer.bytes());
     }
     Ok(page)
 }
@@ -94,13 +93,4 @@ fn meta_fields(pages_per_range: u32, last_revmap: u32) -> [u8; FIELDS]
     LittleEndian::write_u32(&mut fields[8..], pages_per_range);
     LittleEndian::write_u32(&mut fields[12..], last_revmap);
     fields
-}
-
-// The six bytes of a row pointer.
-fn pointer_bytes(pointer: &RowPtr) -> [u8; POINTER]
-    ensures { result ≡ row_pointer_bytes pointer.now }
-{
-    let mut bytes = [0u8; POINTER];
-    pointer.put(&mut bytes, 0);
-    bytes
 }
