@@ -6,15 +6,15 @@
 //! (`pd_special`). Line pointers grow upwards from byte 24, tuples grow downwards from the special
 //! space, and the hole between the two is zero.
 //!
-//! The invariant: a `Page` and a `PageBuf` always hold one page's bytes, and an `IndexImage` whole
-//! pages, so no layer above asks for their length again.
+//! The invariant: a `Page` and a `PageBuf` always hold one page's bytes, and `Blocks` and an
+//! `IndexImage` whole pages, so no layer above asks for their length again.
 //!
 //! # What it promises
 //!
 //! Each number, pointer and page is read and written as its definition says, and each write gives
-//! the whole page after it, so all other bytes are as before. A call that finds no memory changes
-//! nothing. The definition of the least fault, which page, chains and values tell, stands here
-//! too, below all that use it.
+//! the whole page after it, so all other bytes are as before. A page that is made of items is read
+//! as those items. A call that finds no memory changes nothing. The definition of the least fault,
+//! which page, chains and values tell, stands here too, below all that use it.
 //!
 //! # What is not
 //!

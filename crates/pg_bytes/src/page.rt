@@ -113,7 +113,8 @@ impl<'a> Page<'a> {
     /// The bytes to which a line pointer leads (`PageGetItem`).
     pub fn bytes_of(&self, line: &LinePtr) -> &'a [u8]
         requires { EndsInside line.now }
-        ensures { result.now ≡ bytes_of self.now line.now }
+        ensures value { result.now ≡ bytes_of self.now line.now }
+        ensures size { length result.now ≡ line.now.length }
     {
         let start = usize::from(line.offset);
         &self.bytes[start..start + usize::from(line.length)]

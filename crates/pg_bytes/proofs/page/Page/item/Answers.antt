@@ -8,4 +8,4 @@ returns-in-Some-clause-item c =
     let line = c.in-Some.ensures.line in
     item_at-is c.args.self.now c.args.number line.0
     ∙ ap (λ l. Some (bytes_of c.args.self.now l)) (sym line.1)
-    ∙ ap Some (sym c.bytes_of.ensures)
+    ∙ ap Some (sym c.bytes_of.ensures.value)
