@@ -1,5 +1,6 @@
 -- How a run ends keeps the promise of a build.
 use Rattle.std.proofs.Common.{◌≡◌, ℕ, ◌+◌, List, Option, Some, None, IsSome, IsTrue, Bool, true, false, AllPairs, refl, sym, ap, subst, ◌∙◌, arith}
+use Rattle.pg_bytes.specs.Blocks.{block_count}
 use Rattle.pg_bytes.specs.declared.row_ptr.RowPtr.{RowPtr}
 use Rattle.pg_files.specs.Outside.{FileMap, Outside}
 use Rattle.block_claim.specs.declared.claim.Claim.{Claim}
@@ -9,7 +10,6 @@ use Rattle.opclass.specs.declared.types.Method.TheVariants.{BTree, Brin, Gin}
 use Rattle.opclass.specs.Indexes.{IsIndexOver}
 use Rattle.shared_tape.specs.declared.stored.Record.{Record}
 use Rattle.build_leader.proofs.Neighbours.{neighbours_tell}
-use Rattle.build_leader.specs.Blocks.{block_count}
 use Rattle.build_leader.specs.Outcome.{AreAccepted, AreTakenRows, Duplicate, Faulty, HasBuildOutcome, Indexed, IsIndexFile, RangeWide}
 use Rattle.build_leader.specs.Unique.{Clash, IsFirstClash}
 use Rattle.pg_index.proofs.Determined.{same_asked}

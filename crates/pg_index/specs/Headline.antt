@@ -3,11 +3,11 @@
 -- the same map from entries to row pointers for a GIN index, and a unique build is refused exactly where two live rows
 -- have equal keys under its null rule.
 use Rattle.std.specs.Prelude.{◌≡◌, ◌+◌, ◌<◌, ℕ, IsTrue, List, Option, Some, None, AllPairs, slice_get}
+use Rattle.pg_bytes.specs.Blocks.{block_count}
 use Rattle.pg_bytes.specs.declared.row_ptr.RowPtr.{RowPtr}
 use Rattle.pg_files.specs.Outside.{Outside}
 use Rattle.block_claim.specs.Legal.{IsLegal}
 use Rattle.shared_tape.specs.declared.stored.Record.{Record}
-use Rattle.build_leader.specs.Blocks.{block_count}
 use Rattle.build_leader.specs.Outcome.{AreSortedRows, AreTakenRows, IsIndexFile}
 use Rattle.build_leader.specs.Unique.{Clash}
 use Rattle.pg_index.specs.IndexFile.{Holds}
