@@ -17,8 +17,8 @@ with_table table read = elim read [
   | Err fault ↦ Err fault
 ]
 
-read_over : (table : Table) (text : List ℕ) (asked : Asked) (read : Result IndexSpec StmtFault) → index_of table text ≡ read
-    → with_table table read ≡ Ok asked → IsIndexOver asked.table asked.spec
+read_over : (table : Table) (text : List ℕ) (asked : Asked) (read : Result IndexSpec StmtFault)
+    → index_of table text ≡ read → with_table table read ≡ Ok asked → IsIndexOver asked.table asked.spec
 read_over table text asked (Err fault) is e = cc
 read_over table text asked (Ok spec) is e =
     let made : Asked = record { table = table; spec = spec } in

@@ -20,7 +20,7 @@ use Rattle.pg_index.specs.Answer.{status_of}
 use Rattle.pg_index.specs.HeapFile.{OnFile, OnToldFile}
 use Rattle.pg_index.specs.Headline.{AreFirstToClash, BreaksItsRule, Headline, IsBuiltOf, IsDuplicate, SomeClash}
 use Rattle.pg_index.specs.IndexFile.{IsDelivered}
-use Rattle.pg_index.specs.Outcome.{Asks, HasHeapOutcome, HasOutcome, OfBlocks, OfFile, OfHeap, Outcome, Statement, Usage}
+use Rattle.pg_index.specs.Outcome.{Asks, HasHeapOutcome, HasOutcome, HeapOutcome, OfBlocks, OfFile, OfHeap, Outcome, Statement, Usage}
 use Rattle.pg_index.specs.Run.{Built, Builds, Cut, Ends, Made, Refused, Told, Unread, WithoutMemory, delivery_of, fault_of, told_of}
 use Rattle.pg_index.specs.Statements.{asked_of}
 use Rattle.pg_index.specs.Words.{heap_name, workers_of}
@@ -45,7 +45,8 @@ of_told outside files name heap P is there fact =
     subst R there (subst Q is fact)
 
 -- an index that is refused for its first neighbours that clash breaks its rule
-refused_breaks : (asked : Asked) (heap : List ℕ) (first second : RowPtr) → HasHeapOutcome asked heap (OfBlocks (Duplicate first second))
+refused_breaks : (asked : Asked) (heap : List ℕ) (first second : RowPtr)
+    → HasHeapOutcome asked heap (OfBlocks (Duplicate first second))
     → BreaksItsRule asked heap × AreFirstToClash asked heap first second
 refused_breaks asked heap first second has =
     let rows = has.1.3 in
@@ -74,15 +75,25 @@ refused_breaks asked heap first second has =
 clash_not : (asked : Asked) (heap : List ℕ) (some : SomeClash asked heap)
     → AllPairs (λ a b. Clash asked.spec a b → ⊥) some.sorted → ⊥
 clash_not asked heap some pairs =
-    let one : slice_index_or some.sorted some.one some.a ≡ some.a = get_or_from_slice_get some.sorted some.one some.a some.a some.first in
-    let two : slice_index_or some.sorted some.two some.a ≡ some.b = get_or_from_slice_get some.sorted some.two some.b some.a some.second in
+    let at = λ (place : ℕ). slice_index_or some.sorted place some.a in
+    let one : at some.one ≡ some.a = get_or_from_slice_get some.sorted some.one some.a some.a some.first in
+    let two : at some.two ≡ some.b = get_or_from_slice_get some.sorted some.two some.b some.a some.second in
     let agree = pairs some.one some.two some.a some.apart (slice_get_within some.sorted some.two some.b some.second) in
-    let A : Record → Type 0 = λ a. Clash asked.spec a (slice_index_or some.sorted some.two some.a) → ⊥ in
+    let A : Record → Type 0 = λ a. Clash asked.spec a (at some.two) → ⊥ in
     let B : Record → Type 0 = λ b. Clash asked.spec some.a b → ⊥ in
     subst B two (subst A one agree) some.clash
 
 module _ (words : List (List ℕ)) (files : FileMap) (heap : List ℕ) (asked : Asked) (asks : Asks words asked)
     (old new : Outside) (is : old.files ≡ Some files) (there : files (heap_name words) ≡ Some heap) where
+  -- what the heap comes to for the index that the words ask for
+  of_heap : (other : Asked) (outcome : HeapOutcome) → Asks words other
+      → OnToldFile old.files (heap_name words) (λ file. HasHeapOutcome other file outcome)
+      → HasHeapOutcome asked heap outcome
+  of_heap other outcome asks' has =
+      let P : Asked → Type 0 = λ it. HasHeapOutcome it heap outcome in
+      let Q : List ℕ → Type 0 = λ file. HasHeapOutcome other file outcome in
+      subst P (same_asked words other asked asks' asks) (of_told old.files files (heap_name words) heap Q is there has)
+
   -- an outcome that is told as a duplicate
   duplicate : (outcome : Outcome) (first second : RowPtr) → HasOutcome words old.files outcome
       → fault_of outcome ≡ Some (faults.Duplicate first second)
@@ -94,13 +105,12 @@ module _ (words : List (List ℕ)) (files : FileMap) (heap : List ℕ) (asked : 
   duplicate (OfHeap (OfBlocks (RangeWide range size))) first second has e = absurd (let s : 7 ≡ 6 = ap status_of e in omega (arith, s))
   duplicate (OfHeap (OfBlocks (Indexed rows))) first second has e = absurd (let s : 0 ≡ 6 = ap status_of e in omega (arith, s))
   duplicate (OfHeap (OfBlocks (Duplicate a b))) first second has e =
-      let P : Asked → Type 0 = λ other. HasHeapOutcome other heap (OfBlocks (Duplicate a b)) in
-      let found = of_told old.files files (heap_name words) heap (λ file. HasHeapOutcome has.0 file (OfBlocks (Duplicate a b))) is there has.2 in
       let same : Some (faults.Duplicate a b) ≡ Some (faults.Duplicate first second) = e in
       let one : a ≡ first = cc in
       let other : b ≡ second = cc in
-      let breaks = refused_breaks asked heap a b (subst P (same_asked words has.0 asked has.1 asks) found) in
-      (breaks.0, subst (AreFirstToClash asked heap first) other (subst (λ row. AreFirstToClash asked heap row b) one breaks.1))
+      let found = refused_breaks asked heap a b (of_heap has.0 (OfBlocks (Duplicate a b)) has.1 has.2) in
+      let named = subst (λ row. AreFirstToClash asked heap row b) one found.1 in
+      (found.0, subst (AreFirstToClash asked heap first) other named)
 
   -- no two rows of a unique index clash
   unique_rows : (other : Asked) (m : Method) (rows : List Record) → other.spec.method ≡ m
@@ -129,27 +139,22 @@ module _ (words : List (List ℕ)) (files : FileMap) (heap : List ℕ) (asked : 
 
   not_built : (other : Asked) (made : Made) → Builds words old other made → BreaksItsRule asked heap → ⊥
   not_built other made builds breaks =
-      let found = of_told old.files files (heap_name words) heap (λ file. HasHeapOutcome other file (OfBlocks (Indexed made.rows))) is there builds.heap in
-      let same = same_asked words asked other asks builds.asks in
-      not_indexed other other.spec.method made.rows refl builds.index found.1 (subst (λ it. BreaksItsRule it heap) same breaks)
+      let found = of_heap other (OfBlocks (Indexed made.rows)) builds.asks builds.heap in
+      not_indexed asked asked.spec.method made.rows refl (asked_is words asked asks.1) found.1 breaks
 
   -- what words and heap come to where the index breaks its rule
-  breaking_outcome : (outcome : Outcome) (fault : Option Fault) → HasOutcome words old.files outcome → fault ≡ fault_of outcome
-      → IsSome fault → BreaksItsRule asked heap → IsDuplicate asked heap fault
+  breaking_outcome : (outcome : Outcome) (fault : Option Fault) → HasOutcome words old.files outcome
+      → fault ≡ fault_of outcome → IsSome fault → BreaksItsRule asked heap → IsDuplicate asked heap fault
   breaking_outcome (Usage word) fault has answered some breaks = absurd (asks.0 word has.0)
-  breaking_outcome (Statement refused) fault has answered some breaks = absurd (not_both (asked_of words) asked refused asks.1 has.1)
+  breaking_outcome (Statement refused) fault has answered some breaks =
+      absurd (not_both (asked_of words) asked refused asks.1 has.1)
   breaking_outcome (OfHeap (OfFile cause block)) fault has answered some breaks =
-      let found = of_told old.files files (heap_name words) heap (λ file. HasHeapOutcome has.0 file (OfFile cause block)) is there has.2 in
-      absurd (no_file_fault heap cause block breaks.whole found)
+      absurd (no_file_fault heap cause block breaks.whole (of_heap has.0 (OfFile cause block) has.1 has.2))
   breaking_outcome (OfHeap (OfBlocks (Faulty block item cause))) fault has answered some breaks =
-      let found = of_told old.files files (heap_name words) heap (λ file. HasHeapOutcome has.0 file (OfBlocks (Faulty block item cause))) is there has.2 in
-      let P : Asked → Type 0 = λ it. HasHeapOutcome it heap (OfBlocks (Faulty block item cause)) in
-      let first = subst P (same_asked words has.0 asked has.1 asks) found in
+      let first = of_heap has.0 (OfBlocks (Faulty block item cause)) has.1 has.2 in
       absurd (no_first_fault asked.table asked.spec heap block item cause breaks.sound first.1)
   breaking_outcome (OfHeap (OfBlocks (RangeWide range size))) fault has answered some breaks =
-      let found = of_told old.files files (heap_name words) heap (λ file. HasHeapOutcome has.0 file (OfBlocks (RangeWide range size))) is there has.2 in
-      let P : Asked → Type 0 = λ it. HasHeapOutcome it heap (OfBlocks (RangeWide range size)) in
-      let wide = subst P (same_asked words has.0 asked has.1 asks) found in
+      let wide = of_heap has.0 (OfBlocks (RangeWide range size)) has.1 has.2 in
       let brin : asked.spec.method ≡ Brin = wide.1.1 in
       absurd (not_unique asked.spec.unique ((asked_is words asked asks.1).unique (λ tree. cc)) breaks.unique)
   breaking_outcome (OfHeap (OfBlocks (Indexed rows))) fault has answered some breaks =

@@ -63,8 +63,8 @@ pub record IsBuiltOf (words : List (List ℕ)) (asked : Asked) (heap : List ℕ)
   pub file : Holds (index_name words) image old new
   pub unique : IsTrue asked.spec.unique → AllPairs (λ a b. Clash asked.spec a b → ⊥) rows
 
--- What holds of every run over this heap. A unique index is refused exactly where its rows break the rule, unless the heap
--- can't be read or memory runs out.
+-- What holds of every run over this heap. A unique index is refused exactly where its rows break the rule, unless the
+-- heap can't be read or memory runs out.
 pub record Headline (words : List (List ℕ)) (asked : Asked) (heap : List ℕ) (old new : Outside) (told : Told)
     (fault : Option Fault) : Type 0 where
   pub built : fault ≡ None → IsBuiltOf words asked heap old new told
