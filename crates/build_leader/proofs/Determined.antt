@@ -63,8 +63,8 @@ module _ (table : Table) (spec : IndexSpec) (heap : List ℕ) where
     ]
   ]
 
-  no_first_fault : (block item cause : ℕ) → HasSoundBlocks table spec heap → IsFirstFault table spec heap block item cause
-      → ⊥
+  pub no_first_fault : (block item cause : ℕ) → HasSoundBlocks table spec heap
+      → IsFirstFault table spec heap block item cause → ⊥
   no_first_fault block item cause sound fault =
       no_block_fault table spec (block_at block heap) item cause (sound block fault.inside) fault.fault
 
