@@ -55,9 +55,11 @@
 mod bound;
 mod file;
 mod laws;
+mod meta;
 mod page;
 mod regular;
 mod revmap;
+mod special;
 mod summary;
 mod tuple;
 
@@ -69,4 +71,7 @@ pub use laws::{
     same_rows_have_one_summary, summaries_are_joined, summaries_are_tight, the_least_wide_is_told,
     tuples_take_their_room,
 };
+pub use meta::Meta;
+pub use page::{REVMAP_ITEMS, revmap_entry};
+pub use special::PageType;
 pub use summary::{Summaries, Summary};
