@@ -10,6 +10,8 @@ pub mod Flags
 pub mod Tuples
 -- the pages
 pub mod PageWrites
+-- pages that were written are read
+pub mod PageReading
 -- tuples cut into pages
 pub mod Cutting
 -- the pointers to tuples, and the revmap

@@ -18,7 +18,7 @@ pub length-special_space : (page_type : PageType) → length (special_space page
 unfolding special_space
 length-special_space page_type = simp (length-append, length-zeros, length-number_bytes) refl
 
-length-meta_fields : (pages last : ℕ) → length (meta_fields pages last) ≡ 16
+pub length-meta_fields : (pages last : ℕ) → length (meta_fields pages last) ≡ 16
 unfolding meta_fields
 length-meta_fields pages last = simp (length-append, length-number_bytes) refl
 
@@ -59,11 +59,11 @@ written-regular_page special is =
 
 -- ---- the revmap
 
-length-pointer : (pointer : RowPtr) → length (row_pointer_bytes pointer) ≡ 6
+pub length-pointer : (pointer : RowPtr) → length (row_pointer_bytes pointer) ≡ 6
 unfolding row_pointer_bytes
 length-pointer pointer = simp (length-append, length-number_bytes) refl
 
-length-pointers : (pointers : List RowPtr) → length (flat_map row_pointer_bytes pointers) ≡ 6 * length pointers
+pub length-pointers : (pointers : List RowPtr) → length (flat_map row_pointer_bytes pointers) ≡ 6 * length pointers
 length-pointers [] = refl
 length-pointers (pointer ∷ pointers) =
     let both = length-append (row_pointer_bytes pointer) (flat_map row_pointer_bytes pointers) in

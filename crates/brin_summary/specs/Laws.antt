@@ -1,5 +1,5 @@
 -- What holds of summaries and of the file, whatever the rows are.
-use Rattle.std.specs.Prelude.{◌≡◌, ◌≢◌, ◌⊎◌, ◌↔◌, ℕ, ◌+◌, ◌-◌, ◌*◌, ◌<◌, ◌≤◌, true, false, Some, None, List, [], ◌∷◌, ◌++◌, length, map, take, drop, replicate, All, Contains, slice_get}
+use Rattle.std.specs.Prelude.{◌≡◌, ◌≢◌, ◌⊎◌, ◌↔◌, ℕ, ◌+◌, ◌-◌, ◌*◌, ◌^◌, ◌<◌, ◌≤◌, true, false, Some, None, List, [], ◌∷◌, ◌++◌, length, map, take, drop, replicate, All, Contains, slice_get}
 use Rattle.std.specs.List.{flat_map, sum_by}
 use Rattle.std.specs.List.Sorted.{IsPermutation}
 use Rattle.std.specs.declared.cmp.Ordering.TheVariants.{Greater}
@@ -7,12 +7,14 @@ use Rattle.opclass.specs.declared.value.KeyVal.{KeyVal}
 use Rattle.opclass.specs.declared.value.KeyVal.TheVariants.{Nil}
 use Rattle.opclass.specs.Order.{column_cmp}
 use Rattle.opclass.specs.declared.types.ColType.{ColType}
+use Rattle.pg_bytes.specs.ItemPage.{lower_at, space_taken}
 use Rattle.pg_bytes.specs.PageLayout.{page_size}
 use Rattle.pg_bytes.specs.declared.row_ptr.RowPtr.{RowPtr}
 use Rattle.tuple_data.specs.Laws.{room_of}
 use Rattle.brin_summary.specs.Answer.{Wide, tuple_size, wide_range}
 use Rattle.brin_summary.specs.File.{brin_file, page_counts, page_room, pages_of, pointers_from, pointers_on, revmap_pages, taken, tuples_from}
-use Rattle.brin_summary.specs.Page.{meta_page, regular_page, revmap_page}
+use Rattle.brin_summary.specs.Page.{HasType, IsMetaOf, meta_page, regular_page, revmap_entry, revmap_items, revmap_page, special_start}
+use Rattle.brin_summary.specs.declared.special.PageType.TheVariants.{Meta, Revmap, Regular}
 use Rattle.brin_summary.specs.Summary.{ColumnSummary, RangeSummary, ascending, joined, summary_of, value_in}
 use Rattle.brin_summary.specs.Tuple.{bounds_of, null_flags, tuple_most}
 
@@ -147,6 +149,33 @@ PointersLeadToTheTuples =
     → slice_get (pointers_from first (page_counts (map length tuples))) range ≡ Some pointer
     → slice_get tuples range ≡ Some tuple
     → LeadsTo first (pages_of tuples) pointer tuple
+
+-- ---- pages are read as they were written
+
+-- each page has its type
+pub record PagesHaveTheirTypes : Type 0 where
+  pub meta : (pages_per_range last_revmap : ℕ) → HasType Meta (meta_page pages_per_range last_revmap)
+  pub revmap : (pointers : List RowPtr) → length pointers ≤ revmap_items → HasType Revmap (revmap_page pointers)
+  pub regular :
+      (tuples : List (List ℕ)) → lower_at tuples + space_taken tuples ≤ special_start
+      → HasType Regular (regular_page tuples)
+
+abbrev pub MetaIsReadBack : Type 0
+MetaIsReadBack =
+    (pages_per_range last_revmap : ℕ) → pages_per_range < 2 ^ 32 → last_revmap < 2 ^ 32
+    → IsMetaOf (meta_page pages_per_range last_revmap)
+    (record { pages_per_range = pages_per_range; last_revmap = last_revmap })
+
+-- the entries of a page of the revmap are its pointers, and zero behind them
+pub record EntriesAreReadBack : Type 0 where
+  pub there :
+      (pointers : List RowPtr) (entry : ℕ) (pointer : RowPtr)
+      → length pointers ≤ revmap_items → slice_get pointers entry ≡ Some pointer
+      → pointer.block < 2 ^ 32 → pointer.offset < 2 ^ 16
+      → revmap_entry (revmap_page pointers) entry ≡ pointer
+  pub behind :
+      (pointers : List RowPtr) (entry : ℕ) → length pointers ≤ entry → entry < revmap_items
+      → revmap_entry (revmap_page pointers) entry ≡ record { block = 0; offset = 0 }
 
 -- ---- the file
 

@@ -1,6 +1,6 @@
 //! What holds of the summaries and of the file, whatever the rows are.
 
-ghost use Rattle.brin_summary.specs.Laws.{EachTupleHasAPointer, FileHasItsPages, JoinsAssociate, JoinsCommute, NoRowsHaveNoNull, OrderDoesNotMatter, OtherwiseAllHaveRoom, PagesAreFilled, PagesHoldTheTuples, PagesHoldWhatFits, PointersLeadToTheTuples, RowsLieWithin, SameRowsHaveOneSummary, SummariesAreJoined, SummariesAreTight, TheLeastWideIsTold, TuplesTakeTheirRoom};
+ghost use Rattle.brin_summary.specs.Laws.{EachTupleHasAPointer, EntriesAreReadBack, FileHasItsPages, JoinsAssociate, JoinsCommute, MetaIsReadBack, NoRowsHaveNoNull, OrderDoesNotMatter, OtherwiseAllHaveRoom, PagesAreFilled, PagesHaveTheirTypes, PagesHoldTheTuples, PagesHoldWhatFits, PointersLeadToTheTuples, RowsLieWithin, SameRowsHaveOneSummary, SummariesAreJoined, SummariesAreTight, TheLeastWideIsTold, TuplesTakeTheirRoom};
 
 /// The summary of rows and of others is their summaries joined.
 #[tactic(auto, using(crate::proofs::Joining::summary_of_append))]
@@ -97,6 +97,21 @@ pub fn the_least_wide_is_told()
 #[tactic(auto, using(crate::proofs::PageLaws::pages_filled))]
 pub fn pages_are_filled()
     ensures { PagesAreFilled }
+{}
+
+/// The meta page, a page of the revmap and a regular page have each its type.
+pub fn pages_have_their_types()
+    ensures { PagesHaveTheirTypes }
+{}
+
+/// The meta page is read as it was written.
+pub fn meta_is_read_back()
+    ensures { MetaIsReadBack }
+{}
+
+/// The entries of a page of the revmap are read as they were written, and as zero behind them.
+pub fn entries_are_read_back()
+    ensures { EntriesAreReadBack }
 {}
 
 /// Where each tuple has room on a page, the file is its meta page, the revmap and the regular pages,
