@@ -119,12 +119,12 @@ length-null_flags columns =
     let second = length-map columns (λ (column : ColumnSummary). column.has_null) in
     omega arith
 
-no-flag : (flags : List Bool) → bits_of flags ≡ 0 → list_any (λ flag. flag) flags ≡ false
+pub no-flag : (flags : List Bool) → bits_of flags ≡ 0 → list_any (λ flag. flag) flags ≡ false
 no-flag [] none = refl
 no-flag (true ∷ flags) none = absurd (omega arith)
 no-flag (false ∷ flags) none = no-flag flags (omega arith)
 
-some-flag : (flags : List Bool) → 0 < bits_of flags → list_any (λ flag. flag) flags ≡ true
+pub some-flag : (flags : List Bool) → 0 < bits_of flags → list_any (λ flag. flag) flags ≡ true
 some-flag [] some = absurd (omega arith)
 some-flag (true ∷ flags) some = refl
 some-flag (false ∷ flags) some = some-flag flags (omega arith)

@@ -12,6 +12,8 @@ pub mod Tuples
 pub mod PageWrites
 -- pages that were written are read
 pub mod PageReading
+-- the header of a tuple that is read
+pub mod Headers
 -- tuples cut into pages
 pub mod Cutting
 -- the pointers to tuples, and the revmap

@@ -17,7 +17,7 @@ use Rattle.brin_summary.specs.declared.special.PageType.{PageType}
 use Rattle.brin_summary.specs.declared.special.PageType.TheVariants.{Meta, Revmap, Regular}
 
 -- a number between two parts
-number-between : (width x : ℕ) (front rest : List ℕ) (place : ℕ) → length front ≡ place → x < 256 ^ width
+pub number-between : (width x : ℕ) (front rest : List ℕ) (place : ℕ) → length front ≡ place → x < 256 ^ width
     → number_at width (front ++ (number_bytes width x ++ rest)) place ≡ x
 number-between width x front rest place here fits = number_at-past width front (number_bytes width x ++ rest) place here ∙ number_at-first width x rest fits
 

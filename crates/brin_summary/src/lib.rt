@@ -62,6 +62,7 @@ mod revmap;
 mod special;
 mod summary;
 mod tuple;
+mod tuple_head;
 
 pub use file::{BrinFault, pack};
 pub use laws::{
