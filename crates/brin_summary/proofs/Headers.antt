@@ -15,6 +15,7 @@ use Rattle.pg_bytes.specs.PageLayout.{aligned}
 use Rattle.pg_bytes.specs.Places.{zeros}
 use Rattle.brin_summary.proofs.Flags.{bits-few, no-flag, some-flag}
 use Rattle.brin_summary.proofs.PageReading.{number-between}
+use Rattle.brin_summary.specs.Laws.{HeadersAreToldApart}
 use Rattle.brin_summary.specs.Pass.{bits_in, flags_of, header_in}
 use Rattle.brin_summary.specs.Reading.{HasHeader}
 use Rattle.brin_summary.specs.Tuple.{Header, bitmap_of, bits_of, header_bytes, info_of, place_behind}
@@ -346,3 +347,6 @@ kept-image first columns bits has_rows info few small is =
     go false is =
         let none : bits ≡ 0 = (let e = ltb-false 0 bits is in omega arith) in
         image-is (record { first = first; has_rows = has_rows; flags = flags_of (2 * columns) bits }) 0 bits ((kept-none has_rows columns bits small none).bitmap_is ∙ sym no-bytes) (omega arith) (omega arith)
+
+pub told_apart : HeadersAreToldApart
+told_apart columns one other bytes few has has' = (determined columns one bytes few has).is ∙ sym (determined columns other bytes few has').is

@@ -14,6 +14,8 @@ pub mod PageWrites
 pub mod PageReading
 -- the header of a tuple that is read
 pub mod Headers
+-- which tuples are ranges'
+pub mod RangeTuples
 -- tuples cut into pages
 pub mod Cutting
 -- the pointers to tuples, and the revmap

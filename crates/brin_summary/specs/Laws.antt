@@ -1,11 +1,12 @@
 -- What holds of summaries and of the file, whatever the rows are.
 use Rattle.std.specs.Prelude.{◌≡◌, ◌≢◌, ◌⊎◌, ◌↔◌, ℕ, ◌+◌, ◌-◌, ◌*◌, ◌^◌, ◌<◌, ◌≤◌, true, false, Some, None, List, [], ◌∷◌, ◌++◌, length, map, take, drop, replicate, All, Contains, slice_get}
-use Rattle.std.specs.List.{flat_map, sum_by}
+use Rattle.std.specs.List.{AllZip, flat_map, sum_by}
 use Rattle.std.specs.List.Sorted.{IsPermutation}
 use Rattle.std.specs.declared.cmp.Ordering.TheVariants.{Greater}
 use Rattle.opclass.specs.declared.value.KeyVal.{KeyVal}
 use Rattle.opclass.specs.declared.value.KeyVal.TheVariants.{Nil}
 use Rattle.opclass.specs.Order.{column_cmp}
+use Rattle.opclass.specs.Values.{IsValueOf}
 use Rattle.opclass.specs.declared.types.ColType.{ColType}
 use Rattle.pg_bytes.specs.ItemPage.{lower_at, space_taken}
 use Rattle.pg_bytes.specs.PageLayout.{page_size}
@@ -16,7 +17,8 @@ use Rattle.brin_summary.specs.File.{brin_file, page_counts, page_room, pages_of,
 use Rattle.brin_summary.specs.Page.{HasType, IsMetaOf, meta_page, regular_page, revmap_entry, revmap_items, revmap_page, special_start}
 use Rattle.brin_summary.specs.declared.special.PageType.TheVariants.{Meta, Revmap, Regular}
 use Rattle.brin_summary.specs.Summary.{ColumnSummary, RangeSummary, ascending, joined, summary_of, value_in}
-use Rattle.brin_summary.specs.Tuple.{bounds_of, null_flags, tuple_most}
+use Rattle.brin_summary.specs.Reading.{HasHeader, IsRangeTuple}
+use Rattle.brin_summary.specs.Tuple.{Header, bounds_of, header_of, null_flags, range_tuple, tuple_most}
 
 -- ---- summaries
 
@@ -84,6 +86,24 @@ abbrev pub TuplesTakeTheirRoom : Type 0
 TuplesTakeTheirRoom =
     (kinds : List ColType) (range : RangeSummary)
     → tuple_size kinds range ≤ 20 + length range.columns + sum_by room_of (bounds_of range.columns)
+
+-- the summary of rows of these types has a tuple
+abbrev pub SummariesHaveTuples : Type 0
+SummariesHaveTuples =
+    (kinds : List ColType) (first : ℕ) (rows : List (List KeyVal)) → first < 2 ^ 32 → All (AllZip IsValueOf kinds) rows
+    → IsRangeTuple kinds first (summary_of (length kinds) rows) (range_tuple kinds first (summary_of (length kinds) rows))
+
+-- a tuple begins with its header
+abbrev pub TuplesHaveTheirHeader : Type 0
+TuplesHaveTheirHeader =
+    (kinds : List ColType) (first : ℕ) (range : RangeSummary) (bytes : List ℕ) → IsRangeTuple kinds first range bytes
+    → HasHeader (length kinds) (header_of first range) bytes
+
+-- bytes have one header
+abbrev pub HeadersAreToldApart : Type 0
+HeadersAreToldApart =
+    (columns : ℕ) (one other : Header) (bytes : List ℕ) → columns ≤ 32
+    → HasHeader columns one bytes → HasHeader columns other bytes → one ≡ other
 
 -- a range whose tuple no page takes, behind ranges that all have room on one
 pub record IsLeastWide (kinds : List ColType) (ranges : List RangeSummary) (wide : Wide) : Type 0 where

@@ -1,6 +1,6 @@
 //! What holds of the summaries and of the file, whatever the rows are.
 
-ghost use Rattle.brin_summary.specs.Laws.{EachTupleHasAPointer, EntriesAreReadBack, FileHasItsPages, JoinsAssociate, JoinsCommute, MetaIsReadBack, NoRowsHaveNoNull, OrderDoesNotMatter, OtherwiseAllHaveRoom, PagesAreFilled, PagesHaveTheirTypes, PagesHoldTheTuples, PagesHoldWhatFits, PointersLeadToTheTuples, RowsLieWithin, SameRowsHaveOneSummary, SummariesAreJoined, SummariesAreTight, TheLeastWideIsTold, TuplesTakeTheirRoom};
+ghost use Rattle.brin_summary.specs.Laws.{EachTupleHasAPointer, EntriesAreReadBack, FileHasItsPages, HeadersAreToldApart, JoinsAssociate, JoinsCommute, MetaIsReadBack, NoRowsHaveNoNull, OrderDoesNotMatter, OtherwiseAllHaveRoom, PagesAreFilled, PagesHaveTheirTypes, PagesHoldTheTuples, PagesHoldWhatFits, PointersLeadToTheTuples, RowsLieWithin, SameRowsHaveOneSummary, SummariesAreJoined, SummariesAreTight, SummariesHaveTuples, TheLeastWideIsTold, TuplesHaveTheirHeader, TuplesTakeTheirRoom};
 
 /// The summary of rows and of others is their summaries joined.
 #[tactic(auto, using(crate::proofs::Joining::summary_of_append))]
@@ -55,6 +55,21 @@ pub fn no_rows_have_no_null()
 #[tactic(auto, using(crate::proofs::Rooms::tuple_room))]
 pub fn tuples_take_their_room()
     ensures { TuplesTakeTheirRoom }
+{}
+
+/// The summary of rows of these types has a tuple.
+pub fn summaries_have_tuples()
+    ensures { SummariesHaveTuples }
+{}
+
+/// A range's tuple begins with its header.
+pub fn tuples_have_their_header()
+    ensures { TuplesHaveTheirHeader }
+{}
+
+/// Bytes begin with one header at most.
+pub fn headers_are_told_apart()
+    ensures { HeadersAreToldApart }
 {}
 
 /// The regular pages from the first on have exactly the tuples of the ranges, in order.

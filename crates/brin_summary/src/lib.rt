@@ -66,11 +66,12 @@ mod tuple_head;
 
 pub use file::{BrinFault, pack};
 pub use laws::{
-    each_tuple_has_a_pointer, entries_are_read_back, file_has_its_pages, joins_associate,
-    joins_commute, meta_is_read_back, no_rows_have_no_null, order_does_not_matter,
+    each_tuple_has_a_pointer, entries_are_read_back, file_has_its_pages, headers_are_told_apart,
+    joins_associate, joins_commute, meta_is_read_back, no_rows_have_no_null, order_does_not_matter,
     otherwise_all_have_room, pages_are_filled, pages_have_their_types, pages_hold_the_tuples,
     pages_hold_what_fits, pointers_lead_to_the_tuples, rows_lie_within, same_rows_have_one_summary,
-    summaries_are_joined, summaries_are_tight, the_least_wide_is_told, tuples_take_their_room,
+    summaries_are_joined, summaries_are_tight, summaries_have_tuples, the_least_wide_is_told,
+    tuples_have_their_header, tuples_take_their_room,
 };
 pub use meta::Meta;
 pub use page::{REVMAP_ITEMS, revmap_entry};
