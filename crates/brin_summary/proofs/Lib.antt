@@ -16,6 +16,8 @@ pub mod PageReading
 pub mod Headers
 -- which tuples are ranges'
 pub mod RangeTuples
+-- a tuple that is read
+pub mod RangeReading
 -- tuples cut into pages
 pub mod Cutting
 -- the pointers to tuples, and the revmap

@@ -40,6 +40,11 @@ abbrev pub flags_of : ℕ → ℕ → List Bool
 flags_of zero bits = []
 flags_of (suc count) bits = nat_eq (bits % 2) 1 ∷ flags_of count (bits / 2)
 
+-- the bounds that are there as bits, two for each column, which flags call all null
+abbrev pub present_of : List Bool → ℕ
+present_of [] = 0
+present_of (flag ∷ flags) = (if flag then 0 else 3) + 4 * present_of flags
+
 -- the header that is kept, of so many columns
 abbrev pub seen_header : ℕ → TupleHead → Header
 seen_header columns head =

@@ -57,6 +57,8 @@ mod file;
 mod laws;
 mod meta;
 mod page;
+mod range_tuple;
+mod ranges;
 mod regular;
 mod revmap;
 mod special;
@@ -75,5 +77,7 @@ pub use laws::{
 };
 pub use meta::Meta;
 pub use page::{REVMAP_ITEMS, revmap_entry};
+pub use range_tuple::{RangeCol, RangeCols, RangeTuple};
+pub use ranges::{RangeParts, SummedRange, SummedRanges};
 pub use special::PageType;
 pub use summary::{Summaries, Summary};

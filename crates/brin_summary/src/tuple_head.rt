@@ -4,7 +4,7 @@ ghost use Rattle.std.specs.Prelude.{◌≡◌, ◌*◌, ◌+◌, ◌/◌, ◌<�
 ghost use Rattle.pg_bytes.specs.Numbers.{number_bytes};
 ghost use Rattle.pg_bytes.specs.PageLayout.{aligned};
 ghost use Rattle.pg_bytes.specs.Places.{zeros};
-ghost use Rattle.brin_summary.specs.Pass.{bits_in, flags_of, header_in, seen_header};
+ghost use Rattle.brin_summary.specs.Pass.{bits_in, flags_of, header_in, present_of, seen_header};
 ghost use Rattle.brin_summary.specs.Reading.{HasHeader};
 ghost use Rattle.brin_summary.specs.Tuple.{Header, header_bytes, info_of, place_behind};
 
@@ -63,6 +63,27 @@ impl TupleHead {
             (2 * columns).div_ceil(8)
         };
         al8((FIXED_SIZE + bitmap) as u64) as usize
+    }
+
+    /// Which bounds are there, as bits: two for each column, set where it isn't all null.
+    pub fn present(&self, columns: usize) -> u64
+        requires { columns ≤ 32 }
+        ensures { result ≡ present_of (flags_of columns self.now.bits) }
+    {
+        let mut present = 0;
+        for at in (0..columns).rev() {
+            let pair = if (self.bits >> at) % 2 == 1 { 0 } else { 3 };
+            present = 4 * present + pair;
+        }
+        present
+    }
+
+    /// The has-nulls bits of its columns.
+    pub fn has_nulls(&self, columns: usize) -> u64
+        requires { columns ≤ 32 }
+        ensures { result ≡ self.now.bits / 2 ^ columns }
+    {
+        self.bits >> columns
     }
 
     // What stands at the places of a header's parts. None comes where the bytes end before.
