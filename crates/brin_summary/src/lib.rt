@@ -26,6 +26,12 @@
 //! null is a bound only where the column has no value, and a tuple, which has the bounds in its
 //! data, has no place for it there.
 //!
+//! # How a file is read
+//!
+//! `PageType::of`, `Meta::read` and `revmap_entry` read pages, and take no memory. A tuple's header is
+//! read field by field at their places, and then the header of these fields is compared with the
+//! bytes: so no rule of its layout is written a second time as a test.
+//!
 //! # What it promises
 //!
 //! - `add` and `union` leave the summary of the rows of both, `union` without memory; after want of
@@ -41,6 +47,11 @@
 //!   regular pages have exactly the tuples (`pages_hold_the_tuples`), no more than fits
 //!   (`pages_hold_what_fits`) and no fewer (`pages_are_filled`). Each range has one pointer, which
 //!   leads to its tuple (`each_tuple_has_a_pointer`, `pointers_lead_to_the_tuples`).
+//! - Of reading: `PageType::of` and `Meta::read` answer exactly where a page has that type and the
+//!   fields of a meta page. Pages are read as they were written (`pages_have_their_types`,
+//!   `meta_is_read_back`, `entries_are_read_back`).
+//! - Of tuples: the summary of rows has one (`summaries_have_tuples`), it begins with its header
+//!   (`tuples_have_their_header`), and bytes have one header at most (`headers_are_told_apart`).
 //! - Of refusals: the range told is the least wide one (`the_least_wide_is_told`), and where none
 //!   is told there is none (`otherwise_all_have_room`). Who knows how long the bounds are knows the
 //!   most that a tuple takes (`tuples_take_their_room`).
