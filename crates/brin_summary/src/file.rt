@@ -2,7 +2,7 @@ ghost use Rattle.std.specs.Prelude.{◌≡◌, ◌*◌, ◌<◌, ◌≤◌, ◌^
 ghost use Rattle.brin_summary.specs.Answer.{IsTold, tuple_size, wide_range};
 ghost use Rattle.brin_summary.specs.File.{brin_file};
 
-use crate::page::meta_page;
+use crate::meta::meta_page;
 use crate::regular::put_tuples;
 use crate::revmap::{put_revmap, revmap_pages, tuple_pointers};
 use crate::summary::Summary;

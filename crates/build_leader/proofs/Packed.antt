@@ -25,7 +25,7 @@ use Rattle.btree_pack.specs.Pass.Taken.{IsRowOf, row_of}
 use Rattle.build_leader.specs.declared.fault.LeadFault.{LeadFault}
 use Rattle.build_leader.specs.declared.fault.LeadFault.TheVariants as lead
 use Rattle.build_leader.specs.declared.plan.Plan.{Plan}
-use Rattle.build_leader.specs.declared.ranges.SummedRange.{SummedRange}
+use Rattle.brin_summary.specs.declared.ranges.SummedRange.{SummedRange}
 use Rattle.build_leader.specs.declared.taken.Packed.{Packed}
 use Rattle.build_leader.specs.declared.width.WidthCause.TheVariants as width
 use Rattle.build_leader.specs.Calls.{IsLeadFault, IsPlan, fault_of_ranges}

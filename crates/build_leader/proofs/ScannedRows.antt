@@ -15,7 +15,7 @@ use Rattle.shared_tape.specs.Stored.{IsStorable}
 use Rattle.spool.specs.Spools.{AreBoundedRuns, IsBoundedRun}
 use Rattle.run_merge.specs.Sorted.{AllHaveOrder, all_records}
 use Rattle.build_leader.specs.declared.plan.Plan.{Plan}
-use Rattle.build_leader.specs.declared.ranges.SummedRange.{SummedRange}
+use Rattle.brin_summary.specs.declared.ranges.SummedRange.{SummedRange}
 use Rattle.build_leader.specs.declared.scanned.Scanned.{Scanned}
 use Rattle.build_leader.specs.declared.taken.Packed.{Packed}
 use Rattle.build_leader.specs.Calls.{ArePartsFrom, IsBuilt, IsOpenedFor, IsPartOf, IsScanned}

@@ -21,7 +21,7 @@ use Rattle.shared_tape.specs.declared.stored.Record.{Record}
 use Rattle.shared_tape.specs.Runs.{RunView, records_of}
 use Rattle.run_merge.specs.Sorted.{all_records}
 use Rattle.build_leader.specs.declared.plan.Plan.{Plan}
-use Rattle.build_leader.specs.declared.ranges.SummedRange.{SummedRange}
+use Rattle.brin_summary.specs.declared.ranges.SummedRange.{SummedRange}
 use Rattle.build_leader.specs.declared.row_slot.RowSlot.{RowSlot}
 use Rattle.build_leader.specs.declared.sink.Sink.{Sink}
 use Rattle.build_leader.specs.declared.team.Team.{Team}

@@ -10,7 +10,7 @@ use Rattle.shared_tape.specs.Stored.{IsStorable}
 use Rattle.run_merge.specs.Sorted.{AllHaveOrder, all_records}
 use Rattle.build_leader.specs.declared.fault.LeadFault.{LeadFault}
 use Rattle.build_leader.specs.declared.plan.Plan.{Plan}
-use Rattle.build_leader.specs.declared.ranges.SummedRange.{SummedRange}
+use Rattle.brin_summary.specs.declared.ranges.SummedRange.{SummedRange}
 use Rattle.build_leader.specs.declared.taken.Packed.{Packed}
 use Rattle.build_leader.specs.Blocks.{IsHeapFile}
 use Rattle.build_leader.specs.Calls.{fault_of_ranges}

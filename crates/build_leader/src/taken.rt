@@ -25,7 +25,7 @@ use crate::gin::count_records;
 use crate::leaf_parts::pack_tapes;
 use crate::plan::Plan;
 use crate::posting_parts::pack_entries;
-use crate::ranges::RangeParts;
+use brin_summary::RangeParts;
 use opclass::Method;
 use pg_bytes::{IndexImage, PAGE};
 use shared_tape::Tapes;

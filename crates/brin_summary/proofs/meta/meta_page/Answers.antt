@@ -1,5 +1,5 @@
 use Rattle.brin_summary.proofs.PageWrites.{written-meta_page}
-use Rattle.brin_summary.proofs.page.meta_page.Goals as goal
+use Rattle.brin_summary.proofs.meta.meta_page.Goals as goal
 
 pub returns : goal.returns
 returns c =
