@@ -1,6 +1,6 @@
 use pg_bytes::{
-    Bytes, IndexImage, LinePtr, LineState, Page, PageBuf, RowPtr, RowPtrs, al2, al8, i64_at,
-    u16_at, u32_at,
+    Blocks, Bytes, IndexImage, LinePtr, LineState, Page, PageBuf, RowPtr, RowPtrs, al2, al8,
+    i64_at, u16_at, u32_at,
 };
 use std::process::Abort;
 use std::test::Fail;
@@ -152,5 +152,39 @@ fn lists_hold_items_in_order(rt: HostRuntime) -> Result<(), Fail> {
     assert!(rt; rows.push(row).is_ok());
     assert!(rt; rows.len() == 1);
     assert!(rt; *rows.get(0) == row);
+    Ok(())
+}
+
+#[test]
+fn blocks_and_items_are_read(rt: HostRuntime) -> Result<(), Fail> {
+    let mut page = PageBuf::new(rt.alloc(), 16)?;
+    page.put_slice(8176, &[7; 16]);
+    add_item(&rt, &mut page, 1, &[1; 9]);
+    add_item(&rt, &mut page, 2, &[2; 28]);
+    let mut image = IndexImage::new(rt.alloc());
+    assert!(rt; image.blocks() == 0);
+    image.append(&PageBuf::new(rt.alloc(), 8)?)?;
+    assert!(rt; image.blocks() == 1);
+    image.append(&page)?;
+    assert!(rt; Blocks::of(&image.bytes()[1..]).is_none());
+    let blocks = Blocks::of_whole(image.bytes());
+    assert!(rt; blocks.len() == 2);
+
+    let cases: [(usize, u16, Option<&[u8]>); 6] = [
+        (0, 1, None),
+        (1, 0, None),
+        (1, 1, Some(&[1; 9])),
+        (1, 2, Some(&[2; 28])),
+        (1, 3, None),
+        (1, 0xFFFF, None),
+    ];
+    for (block, number, wanted) in cases {
+        assert!(rt; block < 2);
+        assert!(rt; blocks.page(block).item(number) == wanted);
+    }
+    let read = blocks.page(1);
+    assert!(rt; (read.line_count(), read.flags(), read.special()) == (2, 0, 8176));
+    assert!(rt; (read.lower(), read.upper()) == (32, 8128));
+    assert!(rt; read.special_space() == [7; 16].as_slice());
     Ok(())
 }

@@ -1,9 +1,23 @@
 -- What follows from the definition of a legal list, whatever the list.
-use Rattle.std.specs.Prelude.{◌≡◌, ℕ, ◌+◌, ◌<◌, ◌≤◌, List, length}
+use Rattle.std.specs.Prelude.{◌≡◌, ℕ, ◌+◌, ◌/◌, ◌^◌, ◌<◌, ◌≤◌, List, length}
 use Rattle.std.specs.List.Sorted.{IsPermutation}
 use Rattle.block_claim.specs.declared.claim.Claim.{Claim}
 use Rattle.block_claim.specs.Legal.{IsLegalInSomeOrder, AscendsByFirst, times_claimed}
 use Rattle.block_claim.specs.Machine.{IsRun}
+use Rattle.block_claim.specs.Ramp.{chunk_at_start}
+
+-- The least power of two that isn't below a part in 2,048 of the blocks, at most 8,192 (pg_nextpower2_32 and Min in
+-- table_block_parallelscan_startblock_init).
+pub record IsFirstChunk (blocks chunk : ℕ) : Type 0 where
+  pub exponent : ℕ
+  pub power : chunk ≡ 2 ^ exponent
+  pub most : chunk ≤ 8192
+  pub enough : chunk < 8192 → blocks / 2048 ≤ chunk
+  pub least : (k : ℕ) → blocks / 2048 ≤ 2 ^ k → chunk ≤ 2 ^ k
+
+-- so the first chunk is one of 14 sizes
+abbrev pub FirstChunkIsAPowerOfTwo : Type 0
+FirstChunkIsAPowerOfTwo = (blocks : ℕ) → IsFirstChunk blocks (chunk_at_start blocks)
 
 -- every block of a scan with a seat lies in exactly one claim
 abbrev pub EachBlockIsClaimedOnce : Type 0

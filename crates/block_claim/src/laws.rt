@@ -1,4 +1,5 @@
 ghost use Rattle.block_claim.specs.Laws.{EachBlockIsClaimedOnce, LegalClaimsAreARun, LegalClaimsAreFew};
+ghost use Rattle.block_claim.specs.Laws.{FirstChunkIsAPowerOfTwo};
 
 /// Every block of a scan with a seat lies in exactly one claim of a legal list. A law of the
 /// definitions: the call does nothing.
@@ -16,4 +17,10 @@ pub fn legal_claims_are_a_run()
 /// definitions: the call does nothing.
 pub fn legal_claims_are_few()
     ensures { LegalClaimsAreFew }
+{}
+
+/// The chunk that a scan begins with is the least power of two that isn't below a part in 2,048 of
+/// the blocks, at most 8,192. A law of the definitions: the call does nothing.
+pub fn first_chunk_is_a_power_of_two()
+    ensures { FirstChunkIsAPowerOfTwo }
 {}

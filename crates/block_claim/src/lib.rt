@@ -46,8 +46,8 @@
 //! contracts exactly what the seat has afterwards. A seat that is done and has the whole share has
 //! legal claims, also where the scan is only borrowed. `close` gives them. The laws say that each
 //! block lies in exactly one legal claim, that legal claims in the order of their numbers are what
-//! the machine of `specs/Machine.antt` makes, and that they are at most as many as blocks and
-//! seats.
+//! the machine of `specs/Machine.antt` makes, that they are at most as many as blocks and seats,
+//! and that the first chunk is the least power of two that is large enough.
 //!
 //! # What is not
 //!
@@ -69,6 +69,9 @@ mod steps;
 mod view;
 
 pub use claim::{Claim, Claims};
-pub use laws::{each_block_is_claimed_once, legal_claims_are_a_run, legal_claims_are_few};
+pub use laws::{
+    each_block_is_claimed_once, first_chunk_is_a_power_of_two, legal_claims_are_a_run,
+    legal_claims_are_few,
+};
 pub use scan::Scan;
 pub use seat::ScanSeat;

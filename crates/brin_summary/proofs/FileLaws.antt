@@ -1,16 +1,15 @@
 -- Each page of a file stands at its block.
-use Rattle.std.proofs.Common.{◌≡◌, ℕ, zero, suc, ◌+◌, ◌-◌, ◌*◌, ◌<◌, ◌≤◌, Some, None, Option, List, [], ◌∷◌, ◌++◌, length, map, take, drop, get_or, refl, sym, ap, subst, ◌∙◌, arith, length-append, zero-add}
+use Rattle.std.proofs.Common.{◌≡◌, ℕ, zero, suc, ◌+◌, ◌*◌, ◌<◌, ◌≤◌, Some, None, Option, List, [], ◌∷◌, ◌++◌, length, map, take, drop, get_or, refl, sym, ap, ◌∙◌, arith, length-append, zero-add}
 use Rattle.std.specs.Prelude.{All, slice_get}
 use Rattle.std.specs.List.{flat_map, range_with_len}
 use Rattle.std.proofs.lemmas.List.{append_assoc, append-nil, take_at}
-use Rattle.std.proofs.lemmas.List.Elements.{All-drop, All-take}
-use Rattle.std.proofs.lemmas.List.FromFn.{length-range_with_len}
 use Rattle.std.proofs.Math.Seq.{drop-append-add}
+use Rattle.pg_bytes.specs.Blocks.{block_at}
 use Rattle.pg_bytes.specs.declared.row_ptr.RowPtr.{RowPtr}
 use Rattle.opclass.specs.declared.types.ColType.{ColType}
 use Rattle.brin_summary.specs.Answer.{tuple_size, wide_range}
-use Rattle.brin_summary.specs.File.{brin_file, page_counts, pages_of, pointers_from, pointers_on, revmap_of, revmap_pages, taken, tuples_from}
-use Rattle.brin_summary.specs.Laws.{HasItsPages, block_at}
+use Rattle.brin_summary.specs.File.{brin_file, page_counts, pages_of, pointers_from, pointers_on, revmap_of, revmap_pages, tuples_from}
+use Rattle.brin_summary.specs.Laws.{HasItsPages}
 use Rattle.brin_summary.specs.Page.{meta_page, regular_page, revmap_page}
 use Rattle.brin_summary.specs.Summary.{RangeSummary}
 use Rattle.brin_summary.specs.Tuple.{range_tuple}

@@ -9,7 +9,7 @@ use Rattle.opclass.specs.declared.value.KeyVal.{KeyVal}
 use Rattle.tuple_data.specs.Nulls.{is_null}
 use Rattle.brin_summary.specs.Pass.{bits_behind, columns_from, low_nulls}
 use Rattle.brin_summary.specs.Summary.{ColumnSummary}
-use Rattle.brin_summary.specs.Tuple.{bits_of, bounds_of, is_all_null, null_bitmap, null_flags}
+use Rattle.brin_summary.specs.Tuple.{bitmap_of, bits_of, bounds_of, is_all_null, null_bitmap, null_flags}
 
 pub bits-behind : (flags others : List Bool) → bits_of (flags ++ others) ≡ bits_behind flags (bits_of others)
 bits-behind [] others = refl
@@ -119,25 +119,25 @@ length-null_flags columns =
     let second = length-map columns (λ (column : ColumnSummary). column.has_null) in
     omega arith
 
-no-flag : (flags : List Bool) → bits_of flags ≡ 0 → list_any (λ flag. flag) flags ≡ false
+pub no-flag : (flags : List Bool) → bits_of flags ≡ 0 → list_any (λ flag. flag) flags ≡ false
 no-flag [] none = refl
 no-flag (true ∷ flags) none = absurd (omega arith)
 no-flag (false ∷ flags) none = no-flag flags (omega arith)
 
-some-flag : (flags : List Bool) → 0 < bits_of flags → list_any (λ flag. flag) flags ≡ true
+pub some-flag : (flags : List Bool) → 0 < bits_of flags → list_any (λ flag. flag) flags ≡ true
 some-flag [] some = absurd (omega arith)
 some-flag (true ∷ flags) some = refl
 some-flag (false ∷ flags) some = some-flag flags (omega arith)
 
 pub no-bitmap : (columns : List ColumnSummary) → bits_of (null_flags columns) ≡ 0
     → (null_bitmap columns ≡ []) × (list_any (λ flag. flag) (null_flags columns) ≡ false)
-unfolding null_bitmap
+unfolding bitmap_of
 no-bitmap columns none = let no = no-flag (null_flags columns) none in (rw no refl, no)
 
 pub some-bitmap : (columns : List ColumnSummary) → 0 < bits_of (null_flags columns)
     → (null_bitmap columns ≡ number_bytes ((2 * length columns + 7) / 8) (bits_of (null_flags columns)))
     × (list_any (λ flag. flag) (null_flags columns) ≡ true)
-unfolding null_bitmap
+unfolding bitmap_of
 some-bitmap columns there =
     let yes = some-flag (null_flags columns) there in
     (rw (yes, length-null_flags columns) refl, yes)

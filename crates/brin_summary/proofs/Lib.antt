@@ -10,6 +10,14 @@ pub mod Flags
 pub mod Tuples
 -- the pages
 pub mod PageWrites
+-- pages that were written are read
+pub mod PageReading
+-- the header of a tuple that is read
+pub mod Headers
+-- which tuples are ranges'
+pub mod RangeTuples
+-- a tuple that is read
+pub mod RangeReading
 -- tuples cut into pages
 pub mod Cutting
 -- the pointers to tuples, and the revmap

@@ -9,12 +9,12 @@ use Rattle.tuple_data.specs.Laws.{room_of}
 use Rattle.tuple_data.proofs.Room.{room-data}
 use Rattle.brin_summary.specs.Answer.{tuple_size}
 use Rattle.brin_summary.specs.Summary.{ColumnSummary, RangeSummary}
-use Rattle.brin_summary.specs.Tuple.{bits_of, bound_kinds, bounds_of, null_bitmap, null_flags, range_data}
+use Rattle.brin_summary.specs.Tuple.{bitmap_of, bits_of, bound_kinds, bounds_of, null_bitmap, null_flags, range_data}
 use Rattle.brin_summary.proofs.Flags.{length-bounds_of, length-null_flags}
 use Rattle.brin_summary.proofs.Tuples.{tuple_size-is}
 
 bitmap-room : (columns : List ColumnSummary) → length (null_bitmap columns) ≤ 1 + length columns
-unfolding null_bitmap
+unfolding bitmap_of
 bitmap-room columns = go (list_any (λ flag. flag) (null_flags columns)) refl
   where
     go : (t : Bool) → list_any (λ flag. flag) (null_flags columns) ≡ t → length (null_bitmap columns) ≤ 1 + length columns

@@ -14,7 +14,8 @@ use Rattle.pg_bytes.specs.PageLayout.{lower_of, lower_with, upper_of, with_item}
 use Rattle.opclass.specs.declared.types.ColType.{ColType}
 use Rattle.brin_summary.specs.Answer.{tuple_size}
 use Rattle.brin_summary.specs.File.{page_count, page_counts, parts, taken, tuples_from}
-use Rattle.brin_summary.specs.Page.{regular_page, regular_type, special_space}
+use Rattle.brin_summary.specs.Page.{regular_page, special_space}
+use Rattle.brin_summary.specs.declared.special.PageType.TheVariants.{Regular}
 use Rattle.brin_summary.specs.Summary.{RangeSummary}
 use Rattle.brin_summary.specs.Tuple.{range_tuple}
 use Rattle.brin_summary.proofs.Cutting.{counts-none, counts-step, drop-tuples, length-tuples, sizes-of-tuples, take-tuples, tuple-at}
@@ -79,13 +80,13 @@ pub has_place : (tuples : List (List ℕ)) (at : ℕ) (page : List ℕ) → All 
     → page ≡ regular_page (take at tuples) → HasPlace tuples at page
 unfolding regular_page room_of
 has_place tuples at page are fits inside is =
-    let special : List ℕ = special_space regular_type in
+    let special : List ℕ = special_space Regular in
     let front : List (List ℕ) = take at tuples in
     let item : List ℕ = get_or tuples at [] in
     let is_tuple : IsTuple item = All-get_or IsTuple tuples at [] inside are in
     let some = is_tuple.some in
     let whole = is_tuple.whole in
-    let size = length-special_space regular_type in
+    let size = length-special_space Regular in
     let space = space-room front (All-take IsTuple at tuples are) in
     let count : length front ≡ at = length-take-le at tuples (omega arith) in
     let more = room-more tuples at inside in
@@ -106,9 +107,9 @@ has_place tuples at page are fits inside is =
 pub length-regular_page : (tuples : List (List ℕ)) → All IsTuple tuples → taken (map length tuples) ≤ 8160 → length (regular_page tuples) ≡ 8192
 unfolding regular_page room_of
 length-regular_page tuples are fits =
-    let size = length-special_space regular_type in
+    let size = length-special_space Regular in
     let space = space-room tuples are in
-    length-item_page (special_space regular_type) tuples (omega arith) (omega arith)
+    length-item_page (special_space Regular) tuples (omega arith) (omega arith)
 
 -- the next range's tuple, and its place
 module _ (kinds : List ColType) (pages first : ℕ) (ranges : List RangeSummary) (at : ℕ) (inside : at < length ranges) where

@@ -12,14 +12,14 @@ use Rattle.tuple_data.specs.Data.{data_of}
 use Rattle.brin_summary.specs.Answer.{tuple_size}
 use Rattle.brin_summary.specs.Pass.{half_of}
 use Rattle.brin_summary.specs.Summary.{RangeSummary}
-use Rattle.brin_summary.specs.Tuple.{bound_kinds, bounds_of, data_place, info_byte, null_bitmap, range_data, range_tuple, tuple_header}
+use Rattle.brin_summary.specs.Tuple.{bound_kinds, bounds_of, data_place, header_bytes, info_byte, null_bitmap, range_data, range_tuple, tuple_header}
 
 pub half_of-twice : (kinds : List ColType) → half_of (bound_kinds kinds) ≡ kinds
 half_of-twice [] = refl
 half_of-twice (kind ∷ kinds) = ap (λ l. kind ∷ l) (half_of-twice kinds)
 
 pub length-tuple_header : (first : ℕ) (range : RangeSummary) → length (tuple_header first range) ≡ 5 + length (null_bitmap range.columns)
-unfolding tuple_header
+unfolding header_bytes
 length-tuple_header first range =
     let both = length-append (number_bytes 4 first) (info_byte range ∷ null_bitmap range.columns) in
     let four = length-number_bytes 4 first in

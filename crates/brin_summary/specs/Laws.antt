@@ -1,20 +1,25 @@
 -- What holds of summaries and of the file, whatever the rows are.
-use Rattle.std.specs.Prelude.{◌≡◌, ◌≢◌, ◌⊎◌, ◌↔◌, ℕ, ◌+◌, ◌-◌, ◌*◌, ◌<◌, ◌≤◌, true, false, Some, None, List, [], ◌∷◌, ◌++◌, length, map, take, drop, replicate, All, Contains, slice_get}
-use Rattle.std.specs.List.{flat_map, sum_by}
+use Rattle.std.specs.Prelude.{◌≡◌, ◌≢◌, ◌⊎◌, ◌↔◌, ℕ, ◌+◌, ◌-◌, ◌*◌, ◌^◌, ◌<◌, ◌≤◌, true, false, Some, None, List, [], ◌∷◌, ◌++◌, length, map, take, replicate, All, Contains, slice_get}
+use Rattle.std.specs.List.{AllZip, flat_map, sum_by}
 use Rattle.std.specs.List.Sorted.{IsPermutation}
 use Rattle.std.specs.declared.cmp.Ordering.TheVariants.{Greater}
+use Rattle.pg_bytes.specs.Blocks.{block_at}
 use Rattle.opclass.specs.declared.value.KeyVal.{KeyVal}
 use Rattle.opclass.specs.declared.value.KeyVal.TheVariants.{Nil}
 use Rattle.opclass.specs.Order.{column_cmp}
+use Rattle.opclass.specs.Values.{IsValueOf}
 use Rattle.opclass.specs.declared.types.ColType.{ColType}
+use Rattle.pg_bytes.specs.ItemPage.{lower_at, space_taken}
 use Rattle.pg_bytes.specs.PageLayout.{page_size}
 use Rattle.pg_bytes.specs.declared.row_ptr.RowPtr.{RowPtr}
 use Rattle.tuple_data.specs.Laws.{room_of}
 use Rattle.brin_summary.specs.Answer.{Wide, tuple_size, wide_range}
 use Rattle.brin_summary.specs.File.{brin_file, page_counts, page_room, pages_of, pointers_from, pointers_on, revmap_pages, taken, tuples_from}
-use Rattle.brin_summary.specs.Page.{meta_page, regular_page, revmap_page}
+use Rattle.brin_summary.specs.Page.{HasType, IsMetaOf, meta_page, regular_page, revmap_entry, revmap_items, revmap_page, special_start}
+use Rattle.brin_summary.specs.declared.special.PageType.TheVariants.{Meta, Revmap, Regular}
 use Rattle.brin_summary.specs.Summary.{ColumnSummary, RangeSummary, ascending, joined, summary_of, value_in}
-use Rattle.brin_summary.specs.Tuple.{bounds_of, null_flags, tuple_most}
+use Rattle.brin_summary.specs.Reading.{HasHeader, IsRangeTuple}
+use Rattle.brin_summary.specs.Tuple.{Header, bounds_of, header_of, null_flags, range_tuple, tuple_most}
 
 -- ---- summaries
 
@@ -83,6 +88,24 @@ TuplesTakeTheirRoom =
     (kinds : List ColType) (range : RangeSummary)
     → tuple_size kinds range ≤ 20 + length range.columns + sum_by room_of (bounds_of range.columns)
 
+-- the summary of rows of these types has a tuple
+abbrev pub SummariesHaveTuples : Type 0
+SummariesHaveTuples =
+    (kinds : List ColType) (first : ℕ) (rows : List (List KeyVal)) → first < 2 ^ 32 → All (AllZip IsValueOf kinds) rows
+    → IsRangeTuple kinds first (summary_of (length kinds) rows) (range_tuple kinds first (summary_of (length kinds) rows))
+
+-- a tuple begins with its header
+abbrev pub TuplesHaveTheirHeader : Type 0
+TuplesHaveTheirHeader =
+    (kinds : List ColType) (first : ℕ) (range : RangeSummary) (bytes : List ℕ) → IsRangeTuple kinds first range bytes
+    → HasHeader (length kinds) (header_of first range) bytes
+
+-- bytes have one header
+abbrev pub HeadersAreToldApart : Type 0
+HeadersAreToldApart =
+    (columns : ℕ) (one other : Header) (bytes : List ℕ) → columns ≤ 32
+    → HasHeader columns one bytes → HasHeader columns other bytes → one ≡ other
+
 -- a range whose tuple no page takes, behind ranges that all have room on one
 pub record IsLeastWide (kinds : List ColType) (ranges : List RangeSummary) (wide : Wide) : Type 0 where
   pub range : RangeSummary
@@ -148,11 +171,34 @@ PointersLeadToTheTuples =
     → slice_get tuples range ≡ Some tuple
     → LeadsTo first (pages_of tuples) pointer tuple
 
--- ---- the file
+-- ---- pages are read as they were written
 
--- the block of this number of a file
-unfoldable pub block_at : ℕ → List ℕ → List ℕ
-block_at block file = take page_size (drop (page_size * block) file)
+-- each page has its type
+pub record PagesHaveTheirTypes : Type 0 where
+  pub meta : (pages_per_range last_revmap : ℕ) → HasType Meta (meta_page pages_per_range last_revmap)
+  pub revmap : (pointers : List RowPtr) → length pointers ≤ revmap_items → HasType Revmap (revmap_page pointers)
+  pub regular :
+      (tuples : List (List ℕ)) → lower_at tuples + space_taken tuples ≤ special_start
+      → HasType Regular (regular_page tuples)
+
+abbrev pub MetaIsReadBack : Type 0
+MetaIsReadBack =
+    (pages_per_range last_revmap : ℕ) → pages_per_range < 2 ^ 32 → last_revmap < 2 ^ 32
+    → IsMetaOf (meta_page pages_per_range last_revmap)
+    (record { pages_per_range = pages_per_range; last_revmap = last_revmap })
+
+-- the entries of a page of the revmap are its pointers, and zero behind them
+pub record EntriesAreReadBack : Type 0 where
+  pub there :
+      (pointers : List RowPtr) (entry : ℕ) (pointer : RowPtr)
+      → length pointers ≤ revmap_items → slice_get pointers entry ≡ Some pointer
+      → pointer.block < 2 ^ 32 → pointer.offset < 2 ^ 16
+      → revmap_entry (revmap_page pointers) entry ≡ pointer
+  pub behind :
+      (pointers : List RowPtr) (entry : ℕ) → length pointers ≤ entry → entry < revmap_items
+      → revmap_entry (revmap_page pointers) entry ≡ record { block = 0; offset = 0 }
+
+-- ---- the file
 
 -- the pointers to the tuples of ranges
 abbrev pub range_pointers : List ColType → ℕ → List RangeSummary → List RowPtr

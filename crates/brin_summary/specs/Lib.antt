@@ -4,6 +4,8 @@
 pub mod Summary
 -- the tuple of a range
 pub mod Tuple
+-- and as it is read
+pub mod Reading
 -- the pages
 pub mod Page
 -- the ranges' tuples on pages, the revmap, and the whole file

@@ -41,21 +41,46 @@ bits_of (flag ∷ flags) = (if flag then 1 else 0) + 2 * bits_of flags
 abbrev pub bitmap_size : ℕ → ℕ
 bitmap_size flags = (flags + 7) / 8
 
+-- what a tuple's header says: the range's first block, whether the range has a row, and the flags of its columns
+pub record Header : Type 0 where
+  pub first : ℕ
+  pub has_rows : Bool
+  pub flags : List Bool
+
 -- the null bitmap, which is there where a flag is set; unlike in other tuples a set bit means null
-unfoldable pub null_bitmap : List ColumnSummary → List ℕ
-null_bitmap columns =
-    if list_any (λ flag. flag) (null_flags columns)
-    then number_bytes (bitmap_size (length (null_flags columns))) (bits_of (null_flags columns))
-    else []
+unfoldable pub bitmap_of : List Bool → List ℕ
+bitmap_of flags = if list_any (λ flag. flag) flags then number_bytes (bitmap_size (length flags)) (bits_of flags) else []
 
--- where the data begin
+-- where the data begin behind a header with these flags
+abbrev pub place_behind : List Bool → ℕ
+place_behind flags = rounded_up 8 (fixed_size + length (bitmap_of flags))
+
+unfoldable pub info_of : Bool → List Bool → ℕ
+info_of has_rows flags =
+    place_behind flags + (if has_rows then 0 else empty_range)
+    + (if list_any (λ flag. flag) flags then nulls_there else 0)
+
+-- the header's layout: the first block, the info byte and the null bitmap
+unfoldable pub header_bytes : Header → List ℕ
+header_bytes header = number_bytes 4 header.first ++ info_of header.has_rows header.flags ∷ bitmap_of header.flags
+
+-- ---- of a range
+
+abbrev pub null_bitmap : List ColumnSummary → List ℕ
+null_bitmap columns = bitmap_of (null_flags columns)
+
 abbrev pub data_place : List ColumnSummary → ℕ
-data_place columns = rounded_up 8 (fixed_size + length (null_bitmap columns))
+data_place columns = place_behind (null_flags columns)
 
-unfoldable pub info_byte : RangeSummary → ℕ
-info_byte range =
-    data_place range.columns + (if range.has_rows then 0 else empty_range)
-    + (if list_any (λ flag. flag) (null_flags range.columns) then nulls_there else 0)
+abbrev pub info_byte : RangeSummary → ℕ
+info_byte range = info_of range.has_rows (null_flags range.columns)
+
+-- the header of the range that begins with a block
+abbrev pub header_of : ℕ → RangeSummary → Header
+header_of first range = record { first = first; has_rows = range.has_rows; flags = null_flags range.columns }
+
+abbrev pub tuple_header : ℕ → RangeSummary → List ℕ
+tuple_header first range = header_bytes (header_of first range)
 
 -- the least and the greatest value of each column, a pair behind the other, and their types
 abbrev pub bounds_of : List ColumnSummary → List KeyVal
@@ -67,10 +92,6 @@ bound_kinds kinds = flat_map (λ kind. kind ∷ kind ∷ []) kinds
 -- the data, to which a column without a value adds nothing
 unfoldable pub range_data : List ColType → RangeSummary → List ℕ
 range_data kinds range = data_of (bound_kinds kinds) (bounds_of range.columns)
-
--- what stands before the data
-unfoldable pub tuple_header : ℕ → RangeSummary → List ℕ
-tuple_header first range = number_bytes 4 first ++ info_byte range ∷ null_bitmap range.columns
 
 -- the tuple of the range that begins with a block
 unfoldable pub range_tuple : List ColType → ℕ → RangeSummary → List ℕ

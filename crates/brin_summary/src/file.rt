@@ -2,8 +2,8 @@ ghost use Rattle.std.specs.Prelude.{◌≡◌, ◌*◌, ◌<◌, ◌≤◌, ◌^
 ghost use Rattle.brin_summary.specs.Answer.{IsTold, tuple_size, wide_range};
 ghost use Rattle.brin_summary.specs.File.{brin_file};
 
-use crate::page::meta_page;
-use crate::regular::{append, put_tuples};
+use crate::meta::meta_page;
+use crate::regular::put_tuples;
 use crate::revmap::{put_revmap, revmap_pages, tuple_pointers};
 use crate::summary::Summary;
 use crate::tuple::{BoundKinds, TUPLE_MOST};
@@ -83,7 +83,7 @@ fn file_of(
     let revmap = revmap_pages(ranges.len() as u32);
     let pointers = tuple_pointers(alloc, 1 + revmap, sizes)?;
     let mut image = IndexImage::new(alloc);
-    append(&mut image, &meta_page(alloc, pages_per_range, revmap)?)?;
+    image.append(&meta_page(alloc, pages_per_range, revmap)?)?;
     put_revmap(alloc, &mut image, revmap, &pointers)?;
     put_tuples(alloc, &mut image, kinds, pages_per_range, ranges, sizes)?;
     Ok(image)

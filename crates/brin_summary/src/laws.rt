@@ -1,6 +1,6 @@
 //! What holds of the summaries and of the file, whatever the rows are.
 
-ghost use Rattle.brin_summary.specs.Laws.{EachTupleHasAPointer, FileHasItsPages, JoinsAssociate, JoinsCommute, NoRowsHaveNoNull, OrderDoesNotMatter, OtherwiseAllHaveRoom, PagesAreFilled, PagesHoldTheTuples, PagesHoldWhatFits, PointersLeadToTheTuples, RowsLieWithin, SameRowsHaveOneSummary, SummariesAreJoined, SummariesAreTight, TheLeastWideIsTold, TuplesTakeTheirRoom};
+ghost use Rattle.brin_summary.specs.Laws.{EachTupleHasAPointer, EntriesAreReadBack, FileHasItsPages, HeadersAreToldApart, JoinsAssociate, JoinsCommute, MetaIsReadBack, NoRowsHaveNoNull, OrderDoesNotMatter, OtherwiseAllHaveRoom, PagesAreFilled, PagesHaveTheirTypes, PagesHoldTheTuples, PagesHoldWhatFits, PointersLeadToTheTuples, RowsLieWithin, SameRowsHaveOneSummary, SummariesAreJoined, SummariesAreTight, SummariesHaveTuples, TheLeastWideIsTold, TuplesHaveTheirHeader, TuplesTakeTheirRoom};
 
 /// The summary of rows and of others is their summaries joined.
 #[tactic(auto, using(crate::proofs::Joining::summary_of_append))]
@@ -57,6 +57,21 @@ pub fn tuples_take_their_room()
     ensures { TuplesTakeTheirRoom }
 {}
 
+/// The summary of rows of these types has a tuple.
+pub fn summaries_have_tuples()
+    ensures { SummariesHaveTuples }
+{}
+
+/// A range's tuple begins with its header.
+pub fn tuples_have_their_header()
+    ensures { TuplesHaveTheirHeader }
+{}
+
+/// Bytes begin with one header at most.
+pub fn headers_are_told_apart()
+    ensures { HeadersAreToldApart }
+{}
+
 /// The regular pages from the first on have exactly the tuples of the ranges, in order.
 #[tactic(auto, using(crate::proofs::PageLaws::pages_hold))]
 pub fn pages_hold_the_tuples()
@@ -97,6 +112,21 @@ pub fn the_least_wide_is_told()
 #[tactic(auto, using(crate::proofs::PageLaws::pages_filled))]
 pub fn pages_are_filled()
     ensures { PagesAreFilled }
+{}
+
+/// The meta page, a page of the revmap and a regular page have each its type.
+pub fn pages_have_their_types()
+    ensures { PagesHaveTheirTypes }
+{}
+
+/// The meta page is read as it was written.
+pub fn meta_is_read_back()
+    ensures { MetaIsReadBack }
+{}
+
+/// The entries of a page of the revmap are read as they were written, and as zero behind them.
+pub fn entries_are_read_back()
+    ensures { EntriesAreReadBack }
 {}
 
 /// Where each tuple has room on a page, the file is its meta page, the revmap and the regular pages,

@@ -26,6 +26,12 @@
 //! null is a bound only where the column has no value, and a tuple, which has the bounds in its
 //! data, has no place for it there.
 //!
+//! # How a file is read
+//!
+//! `PageType::of`, `Meta::read` and `revmap_entry` read pages, and take no memory. A tuple's header is
+//! read field by field at their places, and then the header of these fields is compared with the
+//! bytes: so no rule of its layout is written a second time as a test.
+//!
 //! # What it promises
 //!
 //! - `add` and `union` leave the summary of the rows of both, `union` without memory; after want of
@@ -41,6 +47,11 @@
 //!   regular pages have exactly the tuples (`pages_hold_the_tuples`), no more than fits
 //!   (`pages_hold_what_fits`) and no fewer (`pages_are_filled`). Each range has one pointer, which
 //!   leads to its tuple (`each_tuple_has_a_pointer`, `pointers_lead_to_the_tuples`).
+//! - Of reading: `PageType::of` and `Meta::read` answer exactly where a page has that type and the
+//!   fields of a meta page. Pages are read as they were written (`pages_have_their_types`,
+//!   `meta_is_read_back`, `entries_are_read_back`).
+//! - Of tuples: the summary of rows has one (`summaries_have_tuples`), it begins with its header
+//!   (`tuples_have_their_header`), and bytes have one header at most (`headers_are_told_apart`).
 //! - Of refusals: the range told is the least wide one (`the_least_wide_is_told`), and where none
 //!   is told there is none (`otherwise_all_have_room`). Who knows how long the bounds are knows the
 //!   most that a tuple takes (`tuples_take_their_room`).
@@ -55,18 +66,29 @@
 mod bound;
 mod file;
 mod laws;
+mod meta;
 mod page;
+mod range_tuple;
+mod ranges;
 mod regular;
 mod revmap;
+mod special;
 mod summary;
 mod tuple;
+mod tuple_head;
 
 pub use file::{BrinFault, pack};
 pub use laws::{
-    each_tuple_has_a_pointer, file_has_its_pages, joins_associate, joins_commute,
-    no_rows_have_no_null, order_does_not_matter, otherwise_all_have_room, pages_are_filled,
-    pages_hold_the_tuples, pages_hold_what_fits, pointers_lead_to_the_tuples, rows_lie_within,
-    same_rows_have_one_summary, summaries_are_joined, summaries_are_tight, the_least_wide_is_told,
-    tuples_take_their_room,
+    each_tuple_has_a_pointer, entries_are_read_back, file_has_its_pages, headers_are_told_apart,
+    joins_associate, joins_commute, meta_is_read_back, no_rows_have_no_null, order_does_not_matter,
+    otherwise_all_have_room, pages_are_filled, pages_have_their_types, pages_hold_the_tuples,
+    pages_hold_what_fits, pointers_lead_to_the_tuples, rows_lie_within, same_rows_have_one_summary,
+    summaries_are_joined, summaries_are_tight, summaries_have_tuples, the_least_wide_is_told,
+    tuples_have_their_header, tuples_take_their_room,
 };
+pub use meta::Meta;
+pub use page::{REVMAP_ITEMS, revmap_entry};
+pub use range_tuple::{RangeCol, RangeCols, RangeTuple};
+pub use ranges::{RangeParts, SummedRange, SummedRanges};
+pub use special::PageType;
 pub use summary::{Summaries, Summary};

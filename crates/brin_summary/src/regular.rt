@@ -61,7 +61,7 @@ pub fn put_tuples(
         let count = usize::from(tuples_on_page(sizes));
         let on_page = &left[..count];
         let page = regular_page(alloc, &mut tuple, kinds, pages_per_range, first, on_page)?;
-        append(image, &page)?;
+        image.append(&page)?;
         left = &left[count..];
         sizes = &sizes[count..];
         first += count as u32 * pages_per_range;
@@ -94,13 +94,4 @@ fn regular_page(
         block += pages_per_range;
     }
     Ok(page)
-}
-
-/// Adds a page behind the blocks of the image. An error means that no memory was left.
-pub fn append(image: &mut IndexImage, page: &PageBuf) -> Result<(), AllocError>
-    requires { length image.old < 8192 * 2 ^ 30 }
-    ensures { OnOk result (image.new ≡ image.old ++ page.now) }
-{
-    let number = image.blocks();
-    image.place(number, page)
 }

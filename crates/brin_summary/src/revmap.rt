@@ -2,7 +2,7 @@ ghost use Rattle.std.specs.Prelude.{◌≡◌, ◌+◌, ◌*◌, ◌<◌, ◌≤
 ghost use Rattle.brin_summary.specs.File.{page_counts, pointers_from, pointers_to, revmap_of, revmap_pages};
 
 use crate::page::{REVMAP_ITEMS, revmap_page};
-use crate::regular::{append, tuples_on_page};
+use crate::regular::tuples_on_page;
 use pg_bytes::{IndexImage, RowPtr};
 use std::alloc::{AllocError, Global};
 
@@ -57,7 +57,7 @@ pub fn put_revmap(
 {
     for page in 0..pages {
         let first = REVMAP_ITEMS * page as usize;
-        append(image, &revmap_page(alloc, items_from(pointers, first))?)?;
+        image.append(&revmap_page(alloc, items_from(pointers, first))?)?;
     }
     Ok(())
 }

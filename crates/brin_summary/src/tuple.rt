@@ -99,7 +99,7 @@ fn data_place(range: &Summary) -> u64
 }
 
 // Puts what stands before the data behind the bytes of a buffer.
-#[tactic(auto, unfolding(crate::specs::Tuple::tuple_header, pg_bytes::specs::Numbers::number_bytes))]
+#[tactic(auto, unfolding(crate::specs::Tuple::header_bytes, pg_bytes::specs::Numbers::number_bytes))]
 fn put_header(out: &mut Vec<u8>, first: u32, range: &Summary) -> Result<(), AllocError>
     requires { length range.now.columns ≤ 32 }
     ensures { OnOk result (out.new.items ≡ out.old.items ++ tuple_header first range.now) }
@@ -129,7 +129,7 @@ fn number_bytes(number: u64) -> [u8; 8]
 }
 
 // The info byte: where the data begin, and what is told beside.
-#[tactic(auto, unfolding(crate::specs::Tuple::info_byte))]
+#[tactic(auto, unfolding(crate::specs::Tuple::info_of))]
 fn info_byte(range: &Summary) -> u8
     requires { length range.now.columns ≤ 32 }
     ensures { result ≡ info_byte range.now }

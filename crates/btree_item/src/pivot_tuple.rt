@@ -2,7 +2,6 @@ ghost use Rattle.std.specs.Prelude.{◌≡◌, ◌+◌, ◌≤◌, ◌++◌, len
 ghost use Rattle.btree_item.specs.Pivot.{image_of_attributes, pivot_image, pivot_offset, pivot_tail, tail_size};
 ghost use Rattle.btree_item.specs.Tuple.{size_of};
 
-use crate::posting_tuple::put_pointer;
 use crate::tuple::{NO_ROW, marks, put_tuple, tuple_size};
 use opclass::{ColType, KeyList, KeyVal, Kinds};
 use pg_bytes::{Bytes, Items, RowPtr};
@@ -128,5 +127,5 @@ fn put_tail(out: &mut Vec<u8>, last: Option<RowPtr>) -> Result<(), AllocError>
         return Ok(());
     };
     out.extend_from_slice(&[0, 0])?;
-    put_pointer(out, last)
+    last.append(out)
 }

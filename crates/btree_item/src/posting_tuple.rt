@@ -87,18 +87,7 @@ fn put_pointers(out: &mut Vec<u8>, ptrs: &[RowPtr]) -> Result<(), AllocError>
     ensures err { OnErr result (take (length out.old.items) out.new.items ≡ out.old.items) }
 {
     for ptr in ptrs {
-        put_pointer(out, *ptr)?;
+        ptr.append(out)?;
     }
     Ok(())
-}
-
-// Puts a row pointer.
-#[tactic(auto, unfolding(pg_bytes::specs::Numbers::number_bytes, pg_bytes::specs::Places::written, pg_bytes::specs::Pointers::row_pointer_bytes))]
-pub(crate) fn put_pointer(out: &mut Vec<u8>, ptr: RowPtr) -> Result<(), AllocError>
-    ensures ok { OnOk result (out.new.items ≡ out.old.items ++ row_pointer_bytes ptr) }
-    ensures err { OnErr result (out.new.items ≡ out.old.items) }
-{
-    let mut bytes = [0u8; POINTER];
-    ptr.put(&mut bytes, 0);
-    out.extend_from_slice(&bytes)
 }

@@ -2,11 +2,12 @@
 use Rattle.std.proofs.Common.{◌≡◌, ℕ, suc, ◌+◌, ◌≤◌, Bool, true, false, List, [], ◌∷◌, length, refl, sym, ap, ◌∙◌, subst, arith}
 use Rattle.std.specs.Prelude.{Option, Some, None}
 use Rattle.pg_bytes.specs.Image.{placed}
+use Rattle.pg_bytes.specs.ItemPage.{first_lowest_page}
 use Rattle.btree_pack.specs.Births.{Birth}
 use Rattle.btree_pack.specs.Break.{Item, breaks}
 use Rattle.btree_pack.specs.Leaves.{Content}
 use Rattle.btree_pack.specs.Nodes.{flags_on, tuples_on}
-use Rattle.btree_pack.specs.Page.{page_with_high_key, special_space}
+use Rattle.btree_pack.specs.Page.{special_space}
 use Rattle.btree_pack.specs.Pages.{Page}
 use Rattle.btree_pack.specs.Tower.{item_above}
 use Rattle.btree_pack.specs.Tuple.{minus_infinity}
@@ -102,7 +103,7 @@ module _ (births : List Birth) (fillfactor : ℕ) where
       let hk : List ℕ = last.content.separator in
       let numbers = first-number births fillfactor blocks _ _ (subst (Follow births fillfactor blocks) (breaks-born births fillfactor 0 o above x page finished) follow) in
       let here : number births 0 x.arrival ≡ suc blocks = numbers.0 in
-      let bytes : ℕ → List ℕ = λ (n : ℕ). page_with_high_key (special_space (prev_behind births 0 0 full) n 0 (flags_on 0 false)) hk (tuples_on births 0 page) in
+      let bytes : ℕ → List ℕ = λ (n : ℕ). first_lowest_page (special_space (prev_behind births 0 0 full) n 0 (flags_on 0 false)) hk (tuples_on births 0 page) in
       let rest : ℕ → Carried = λ (n : ℕ). carried fillfactor 1 (states births 1 above) (suc blocks) (placed st.block (bytes n) image) (pivot_of st) in
       let whole : PageState → Carried → Packing = λ p c. record { pages = p ∷ c.pages; tuples = suc tuples; blocks = c.blocks; image = c.image } in
       arrived-turns hk (packing_with (o ∷ above) tuples blocks image) x (is_full-on births fillfactor 0 full (first ∷ others) last born x x.size told one refl ∙ is)

@@ -3,11 +3,10 @@ use Rattle.std.proofs.Common.{◌≡◌, ℕ, ◌+◌, ◌-◌, ◌*◌, ◌<◌
 use Rattle.std.proofs.lemmas.List.{append_assoc, append-nil}
 use Rattle.pg_bytes.proofs.ItemPage.{length-aligned, length-line_pointers, length-page_header, line_pointers-push, lower_of-page_header, placed_items-push, space-push, upper_of-page_header, written-lower, written-upper}
 use Rattle.pg_bytes.proofs.Writes.{length-number_bytes, length-zeros, written-middle, zeros-append}
-use Rattle.pg_bytes.specs.ItemPage.{item_page, line_pointers, placed_items, space_of, upper_at}
+use Rattle.pg_bytes.specs.ItemPage.{first_lowest_page, item_page, line_pointers, placed_items, space_of, upper_at}
 use Rattle.pg_bytes.specs.Numbers.{number_bytes}
 use Rattle.pg_bytes.specs.PageLayout.{aligned, empty_page, item_place, line_place, lower_of, lower_with, normal_word, page_header, upper_of, with_item}
 use Rattle.pg_bytes.specs.Places.{written, zeros}
-use Rattle.btree_pack.specs.Page.{page_with_high_key}
 use Rattle.btree_pack.specs.Pass.Begun.{begun_page, lower_behind}
 
 -- a page by its parts
@@ -126,8 +125,8 @@ with_item-begun_page special reserved tuples item fits =
 -- the high key under the line pointer that was left for it
 pub with_item-high_key : (special : List ℕ) (tuples : List (List ℕ)) (high_key : List ℕ)
     → lower_behind 1 tuples + space_of high_key ≤ upper_at special tuples
-    → with_item 1 high_key (begun_page special 1 tuples) ≡ page_with_high_key special high_key tuples
-unfolding with_item begun_page page_with_high_key
+    → with_item 1 high_key (begun_page special 1 tuples) ≡ first_lowest_page special high_key tuples
+unfolding with_item begun_page first_lowest_page
 with_item-high_key special tuples item fits =
     let page : List ℕ = begun_page special 1 tuples in
     let end : ℕ = 8192 - length special in

@@ -6,13 +6,14 @@ use Rattle.std.specs.List.{range_with_len, sum_by}
 use Rattle.std.specs.Prelude.{Some, None}
 use Rattle.pg_bytes.proofs.Writes.{length-number_bytes}
 use Rattle.pg_bytes.specs.Image.{placed}
+use Rattle.pg_bytes.specs.ItemPage.{first_lowest_page}
 use Rattle.pg_bytes.specs.Numbers.{number_bytes}
 use Rattle.pg_bytes.specs.Pointers.{row_pointer_bytes}
 use Rattle.btree_pack.specs.Births.{Birth, block_of}
 use Rattle.btree_pack.specs.Break.{Item, breaks, first_size, page_room, soft_limit, spare, taken}
 use Rattle.btree_pack.specs.Leaves.{Content}
 use Rattle.btree_pack.specs.Nodes.{block_on, child_block, first_tuple_on, flags_on, high_key_on, tuple_on, tuples_on}
-use Rattle.btree_pack.specs.Page.{page_with_high_key, special_space}
+use Rattle.btree_pack.specs.Page.{special_space}
 use Rattle.btree_pack.specs.Pages.{Page}
 use Rattle.btree_pack.specs.Tower.{item_above}
 use Rattle.btree_pack.specs.Tuple.{minus_infinity, with_child}
@@ -322,7 +323,7 @@ module _ (births : List Birth) where
         → below (state_of births level (broken_by o page x))
         (stepped (suc level) above (item_above page) (suc blocks)
         (placed (block_on births level page)
-        (page_with_high_key (special_space (prev_behind births level 0 o.full) (number births level x.arrival) level (flags_on level false)) (high_key_on births level o.last) (tuples_on births level page))
+        (first_lowest_page (special_space (prev_behind births level 0 o.full) (number births level x.arrival) level (flags_on level false)) (high_key_on births level o.last) (tuples_on births level page))
         image))
         ≡ stepped level (o ∷ above) x blocks image
     stepped-breaks level o above x page blocks image is =
@@ -388,7 +389,7 @@ module _ (births : List Birth) where
             let st = state_of births level o in
             let numbers = first-number blocks _ _ (subst (Follow blocks) (breaks-born level o above x page finished) follow') in
             let here : number births level x.arrival ≡ suc blocks = numbers.0 in
-            let bytes : ℕ → List ℕ = λ (n : ℕ). page_with_high_key (special_space (prev_behind births level 0 full) n level (flags_on level false)) (tuple_on births level last) (tuples_on births level page) in
+            let bytes : ℕ → List ℕ = λ (n : ℕ). first_lowest_page (special_space (prev_behind births level 0 full) n level (flags_on level false)) (tuple_on births level last) (tuples_on births level page) in
             let rest : ℕ → List ℕ → Carried = λ (n : ℕ) (pivot : List ℕ). carried fillfactor (suc level) (states births (suc level) above) (suc blocks) (placed st.block (bytes n) image) pivot in
             carried-breaks level st (states births (suc level) above) blocks image t
             (is_full-on level full (first ∷ others) last born x (length t) told' one (length-tuple_on level x told) ∙ is)

@@ -10,10 +10,11 @@ use Rattle.std.proofs.lemmas.List.Sorted.{All-permutation, IsPermutation-sym, su
 use Rattle.std.specs.List.{filter, flat_map, count_by, sum_by, range_with_len}
 use Rattle.std.specs.List.Sorted.{IsPermutation}
 use Rattle.std.specs.Prelude.{All, nat_eq}
+use Rattle.pg_bytes.specs.Blocks.{block_at}
 use Rattle.btree_pack.specs.Break.{Item}
 use Rattle.btree_pack.specs.Laws.{IsFileOf, IsSmall, IsWritten}
 use Rattle.btree_pack.specs.Leaves.{Content}
-use Rattle.btree_pack.specs.Nodes.{Node, block_at, bytes_at, file_of, meta_page_of, nodes_of}
+use Rattle.btree_pack.specs.Nodes.{Node, bytes_at, file_of, meta_page_of, nodes_of}
 use Rattle.btree_pack.specs.Pages.{Page}
 use Rattle.btree_pack.specs.Tower.{ArriveInTurn, levels}
 use Rattle.btree_pack.proofs.MetaWrites.{length-meta_page}

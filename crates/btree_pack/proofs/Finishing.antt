@@ -7,12 +7,13 @@ use Rattle.std.proofs.lemmas.List.Sorted.{All-permutation, IsPermutation-append_
 use Rattle.std.specs.List.{range_with_len}
 use Rattle.std.specs.List.Sorted.{IsPermutation}
 use Rattle.std.specs.Prelude.{All, Option, Some, None}
+use Rattle.pg_bytes.specs.Blocks.{block_at}
 use Rattle.pg_bytes.specs.Image.{placed}
 use Rattle.btree_pack.specs.Births.{Birth, births_of}
 use Rattle.btree_pack.specs.Break.{Item}
 use Rattle.btree_pack.specs.Laws.{IsFileOf, IsSmall, IsWritten}
 use Rattle.btree_pack.specs.Leaves.{Content}
-use Rattle.btree_pack.specs.Nodes.{Node, Root, block_at, file_of, meta_page_of, nodes_from, nodes_of, root_from}
+use Rattle.btree_pack.specs.Nodes.{Node, Root, file_of, meta_page_of, nodes_from, nodes_of, root_from}
 use Rattle.btree_pack.specs.Page.{meta_page}
 use Rattle.btree_pack.specs.Tower.{ArriveInTurn, levels}
 use Rattle.btree_pack.specs.Pass.Emission.{made_by, made_closing, made_from, with_nodes}

@@ -1,15 +1,14 @@
 -- Each node is a page: what an item tells of its size is what its bytes take.
-use Rattle.std.proofs.Common.{◌≡◌, ℕ, zero, suc, ◌+◌, ◌-◌, ◌*◌, ◌/◌, ◌%◌, ◌^◌, ◌≤◌, Bool, true, false, List, [], ◌∷◌, ◌++◌, length, map, drop, refl, sym, ap, ◌∙◌, subst, arith, length-append, length-drop}
+use Rattle.std.proofs.Common.{◌≡◌, ℕ, zero, suc, ◌+◌, ◌*◌, ◌/◌, ◌%◌, ◌^◌, ◌≤◌, Bool, true, false, List, [], ◌∷◌, ◌++◌, length, map, drop, refl, sym, ap, ◌∙◌, subst, inr, arith, length-append, length-drop}
 use Rattle.std.proofs.lemmas.List.{length-map}
 use Rattle.std.proofs.lemmas.List.Sums.{sum_by-cons}
 use Rattle.std.specs.List.{flat_map, sum_by}
 use Rattle.std.specs.Prelude.{All, Option, Some, None}
-use Rattle.pg_bytes.proofs.ItemPage.{length-aligned, length-item_page, length-line_pointers, length-page_header, length-placed_items}
-use Rattle.pg_bytes.proofs.Writes.{length-number_bytes, length-zeros}
-use Rattle.pg_bytes.specs.ItemPage.{line_pointers, lower_at, placed_items, space_of, space_taken, upper_at}
+use Rattle.pg_bytes.proofs.ItemPage.{length-item_page}
+use Rattle.pg_bytes.proofs.ItemReading.{lowest-read}
+use Rattle.pg_bytes.proofs.Writes.{length-number_bytes}
+use Rattle.pg_bytes.specs.ItemPage.{first_lowest_page, space_of, space_taken}
 use Rattle.pg_bytes.specs.Numbers.{number_bytes, rounded_up}
-use Rattle.pg_bytes.specs.PageLayout.{aligned, normal_word, page_header}
-use Rattle.pg_bytes.specs.Places.{zeros}
 use Rattle.pg_bytes.specs.Pointers.{row_pointer_bytes}
 use Rattle.btree_pack.specs.Births.{Birth, births_of}
 use Rattle.btree_pack.specs.Break.{Item, first_size, taken}
@@ -18,7 +17,7 @@ use Rattle.btree_pack.specs.Groups.{Row, Group, leaf_groups}
 use Rattle.btree_pack.specs.Leaves.{Content, Images, plain_of, tuple_of_group, pivot_between, leaf_items_behind, leaf_items}
 use Rattle.btree_pack.specs.Separators.{separator}
 use Rattle.btree_pack.specs.Nodes.{Node, child_block, tuple_on, first_tuple_on, tuples_on, high_key_on, flags_on, block_on, nodes_behind, nodes_from, nodes_of}
-use Rattle.btree_pack.specs.Page.{page_with_high_key, special_space}
+use Rattle.btree_pack.specs.Page.{special_space}
 use Rattle.btree_pack.specs.Pages.{Page, items_of}
 use Rattle.btree_pack.specs.Tower.{item_above, levels}
 use Rattle.btree_pack.specs.Tuple.{minus_infinity, with_child}
@@ -45,27 +44,11 @@ length-with_child child pivot room =
     omega arith
 
 -- a page with a high key has its size, if all fits
-length-page_with_high_key : (special high : List ℕ) (tuples : List (List ℕ)) → length special ≡ 16
-    → space_taken tuples + space_of high + (4 * length tuples + 4) ≤ 8152 → length (page_with_high_key special high tuples) ≡ 8192
-unfolding page_with_high_key
-length-page_with_high_key special high tuples size fits =
-    let end : ℕ = 8192 - length special in
-    let lower : ℕ = lower_at (high ∷ tuples) in
-    let upper : ℕ = upper_at special (high ∷ tuples) in
-    let word : List ℕ = number_bytes 4 (normal_word upper (length high)) in
-    let h = length-page_header lower upper end in
-    let w = length-number_bytes 4 (normal_word upper (length high)) in
-    let l = length-line_pointers end tuples in
-    let z = length-zeros (upper - lower) in
-    let a = length-aligned high in
-    let p = length-placed_items tuples in
-    let a1 = length-append (page_header lower upper end) (word ++ (line_pointers end tuples ++ (zeros (upper - lower) ++ (aligned high ++ (placed_items tuples ++ special))))) in
-    let a2 = length-append word (line_pointers end tuples ++ (zeros (upper - lower) ++ (aligned high ++ (placed_items tuples ++ special)))) in
-    let a3 = length-append (line_pointers end tuples) (zeros (upper - lower) ++ (aligned high ++ (placed_items tuples ++ special))) in
-    let a4 = length-append (zeros (upper - lower)) (aligned high ++ (placed_items tuples ++ special)) in
-    let a5 = length-append (aligned high) (placed_items tuples ++ special) in
-    let a6 = length-append (placed_items tuples) special in
-    omega arith
+length-first_lowest_page : (special high : List ℕ) (tuples : List (List ℕ)) → length special ≡ 16
+    → space_taken tuples + space_of high + (4 * length tuples + 4) ≤ 8152 → length (first_lowest_page special high tuples) ≡ 8192
+length-first_lowest_page special high tuples size fits =
+    let read = lowest-read special high tuples (record { special_size = inr size; room = omega arith }) in
+    read.size
 
 -- ---- items as they are written on a level
 
@@ -194,7 +177,7 @@ whole-behind births level root prev (page ∷ next ∷ others) all fit =
     let key : space_of (high_key_on births level next.first) ≡ next.first.bound =
     ap (rounded_up 8) (length-high_key_on births level next.first written) ∙ written.whole_bound in
     let room = fit.0 in (
-      length-page_with_high_key special (high_key_on births level next.first) (tuples_on births level page) size (omega arith),
+      length-first_lowest_page special (high_key_on births level next.first) (tuples_on births level page) size (omega arith),
       whole-behind births level root here (next ∷ others) all.1 fit.1,
     )
 

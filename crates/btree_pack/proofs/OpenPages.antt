@@ -5,13 +5,12 @@ use Rattle.std.proofs.lemmas.List.{length-take-le}
 use Rattle.std.proofs.lemmas.List.Elements.{All-append, All-cons, All-push}
 use Rattle.std.proofs.lemmas.List.Sums.{sum_by-append, sum_by-cons}
 use Rattle.pg_bytes.proofs.Writes.{length-number_bytes}
-use Rattle.pg_bytes.specs.ItemPage.{item_page, upper_at}
+use Rattle.pg_bytes.specs.ItemPage.{first_lowest_page, item_page, upper_at}
 use Rattle.pg_bytes.specs.Numbers.{number_bytes, rounded_up}
 use Rattle.pg_bytes.specs.PageLayout.{lower_of, lower_with, upper_of, with_item}
 use Rattle.btree_pack.proofs.BegunPages.{begun_page-items, lower_of-begun_page, upper_of-begun_page, with_item-begun_page, with_item-high_key}
 use Rattle.btree_pack.proofs.TupleRoom.{space_of-tuple, space_taken-tuples, tuples-few}
 use Rattle.btree_pack.specs.Break.{spare, page_room}
-use Rattle.btree_pack.specs.Page.{page_with_high_key}
 use Rattle.btree_pack.specs.Pass.Begun.{begun_page, lower_behind}
 use Rattle.btree_pack.specs.Pass.Packing.{IsOpen, IsTuple, PageState, first_form, room_of, used, with_tuple}
 
@@ -94,7 +93,7 @@ all-more page taken tuples tuple extra more opened are is fits few count =
 pub record HasHighKey (special high_key : List ℕ) (tuples : List (List ℕ)) (page : List ℕ) : Type 0 where
   pub upper : upper_of page ≤ 8192
   pub room : lower_with 1 page + rounded_up 8 (length high_key) ≤ upper_of page
-  pub is : with_item 1 high_key page ≡ page_with_high_key special high_key tuples
+  pub is : with_item 1 high_key page ≡ first_lowest_page special high_key tuples
 
 pub has_high_key : (special high_key : List ℕ) (tuples : List (List ℕ)) (page : List ℕ) → length special ≡ 16 → All IsTuple tuples → IsTuple high_key
     → room_of tuples + (length high_key + 4) ≤ 8152 → page ≡ begun_page special 1 tuples → HasHighKey special high_key tuples page

@@ -10,9 +10,10 @@ use Rattle.std.specs.Prelude.{All, nat_eq, ◌⊎◌}
 use Rattle.std.proofs.Common.{inl, inr}
 use Rattle.std.proofs.lemmas.List.Elements.{All-cons}
 use Rattle.pg_bytes.proofs.Writes.{length-zeros}
+use Rattle.pg_bytes.specs.Blocks.{block_at}
 use Rattle.pg_bytes.specs.Image.{filled_up, placed}
 use Rattle.pg_bytes.specs.Places.{written, zeros}
-use Rattle.btree_pack.specs.Nodes.{Node, block_at}
+use Rattle.btree_pack.specs.Nodes.{Node}
 use Rattle.btree_pack.specs.Pass.Emission.{with_nodes}
 
 -- a part of bytes

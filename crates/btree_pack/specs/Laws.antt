@@ -2,6 +2,7 @@
 use Rattle.std.specs.Prelude.{◌≡◌, ℕ, suc, ◌+◌, ◌-◌, ◌*◌, ◌≤◌, Bool, List, [], ◌∷◌, ◌++◌, length, map, All}
 use Rattle.std.specs.List.{flat_map, range_with_len}
 use Rattle.std.specs.List.Sorted.{IsPermutation}
+use Rattle.pg_bytes.specs.Blocks.{block_at}
 use Rattle.pg_bytes.specs.Numbers.{rounded_up}
 use Rattle.pg_bytes.specs.PageLayout.{page_size, header_size, line_pointer_size}
 use Rattle.pg_bytes.specs.declared.row_ptr.RowPtr.{RowPtr}
@@ -10,7 +11,7 @@ use Rattle.btree_pack.specs.Births.{Birth, births_of, block_of}
 use Rattle.btree_pack.specs.Break.{Item, minus_infinity_size, taken}
 use Rattle.btree_pack.specs.Groups.{Row, rows_of, leaf_groups}
 use Rattle.btree_pack.specs.Leaves.{Content, Images, leaf_items, plain_of, tuple_of_group}
-use Rattle.btree_pack.specs.Nodes.{block_at, file_of, meta_page_of, nodes_of}
+use Rattle.btree_pack.specs.Nodes.{file_of, meta_page_of, nodes_of}
 use Rattle.btree_pack.specs.Page.{special_start}
 use Rattle.btree_pack.specs.Pages.{Page, items_of}
 use Rattle.btree_pack.specs.Separators.{Separator}

@@ -1,14 +1,14 @@
 -- The pages of a tower as bytes, and the B-tree file over sorted rows (_bt_blwritepage and _bt_uppershutdown of
 -- nbtsort.c).
-use Rattle.std.specs.Prelude.{ℕ, zero, suc, ◌+◌, ◌*◌, Bool, true, false, if◌then◌else◌, not, ◌&&◌, nat_eq, List, [], ◌∷◌, ◌++◌, length, map, take, drop, filter}
+use Rattle.std.specs.Prelude.{ℕ, zero, suc, ◌+◌, Bool, true, false, if◌then◌else◌, not, ◌&&◌, nat_eq, List, [], ◌∷◌, ◌++◌, length, map, filter}
 use Rattle.std.specs.List.{flat_map, range_with_len}
-use Rattle.pg_bytes.specs.PageLayout.{page_size}
+use Rattle.pg_bytes.specs.ItemPage.{first_lowest_page}
 use Rattle.opclass.specs.declared.spec.IndexSpec.{IndexSpec}
 use Rattle.btree_pack.specs.Births.{Birth, births_of, block_of}
 use Rattle.btree_pack.specs.Break.{Item}
 use Rattle.btree_pack.specs.Groups.{Row}
 use Rattle.btree_pack.specs.Leaves.{Content, Images, leaf_items}
-use Rattle.btree_pack.specs.Page.{is_leaf, is_root, meta_page, page_with_high_key, rightmost_page, special_space}
+use Rattle.btree_pack.specs.Page.{is_leaf, is_root, meta_page, rightmost_page, special_space}
 use Rattle.btree_pack.specs.Pages.{Page}
 use Rattle.btree_pack.specs.Tower.{levels}
 use Rattle.btree_pack.specs.Tuple.{minus_infinity, with_child}
@@ -61,7 +61,7 @@ nodes_behind births level root prev (page ∷ []) =
 nodes_behind births level root prev (page ∷ next ∷ others) =
     record {
       block = block_on births level page;
-      bytes = page_with_high_key (special_space prev (block_on births level next) level (flags_on level root))
+      bytes = first_lowest_page (special_space prev (block_on births level next) level (flags_on level root))
           (high_key_on births level next.first) (tuples_on births level page);
     } ∷ nodes_behind births level root (block_on births level page) (next ∷ others)
 
@@ -102,10 +102,6 @@ unfoldable pub file_of : Bool → List (List (Page Content)) → List ℕ
 file_of equal_images levels =
     let nodes = nodes_of levels in
     meta_page_of equal_images levels ++ flat_map (bytes_at nodes) (range_with_len 1 (length nodes))
-
--- the block of this number of a file
-unfoldable pub block_at : ℕ → List ℕ → List ℕ
-block_at block file = take page_size (drop (page_size * block) file)
 
 -- whether an index has no INCLUDE columns
 abbrev pub has_keys_alone : IndexSpec → Bool

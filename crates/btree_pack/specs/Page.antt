@@ -1,9 +1,9 @@
 -- Pages of a B-tree file (BTPageOpaqueData and BTMetaPageData of nbtree.h).
-use Rattle.std.specs.Prelude.{ℕ, ◌+◌, ◌-◌, Bool, if◌then◌else◌, List, [], ◌∷◌, ◌++◌, length}
+use Rattle.std.specs.Prelude.{ℕ, ◌+◌, ◌-◌, Bool, if◌then◌else◌, List, [], ◌∷◌, ◌++◌}
 use Rattle.pg_bytes.specs.Numbers.{number_bytes}
 use Rattle.pg_bytes.specs.Places.{zeros}
-use Rattle.pg_bytes.specs.PageLayout.{page_header, page_size, header_size, aligned, normal_word}
-use Rattle.pg_bytes.specs.ItemPage.{item_page, line_pointers, lower_at, placed_items, upper_at}
+use Rattle.pg_bytes.specs.PageLayout.{page_header, page_size, header_size}
+use Rattle.pg_bytes.specs.ItemPage.{item_page}
 
 -- the flags of a page
 abbrev pub is_leaf : ℕ
@@ -39,16 +39,6 @@ special_space prev next level flags =
 -- the rightmost page of a level, which has no high key: its items are its tuples
 abbrev pub rightmost_page : ℕ → ℕ → ℕ → List (List ℕ) → List ℕ
 rightmost_page prev level flags tuples = item_page (special_space prev 0 level flags) tuples
-
--- A page that has a right neighbour: its high key, which bounds its keys from above, has the first line pointer
--- (P_HIKEY of nbtree.h), and was placed last, below its items (_bt_buildadd of nbtsort.c).
-unfoldable pub page_with_high_key : List ℕ → List ℕ → List (List ℕ) → List ℕ
-page_with_high_key special high_key tuples =
-    page_header (lower_at (high_key ∷ tuples)) (upper_at special (high_key ∷ tuples)) (page_size - length special)
-    ++ (number_bytes 4 (normal_word (upper_at special (high_key ∷ tuples)) (length high_key))
-    ++ (line_pointers (page_size - length special) tuples
-    ++ (zeros (upper_at special (high_key ∷ tuples) - lower_at (high_key ∷ tuples))
-    ++ (aligned high_key ++ (placed_items tuples ++ special)))))
 
 -- the meta page's fields: magic and version, root and its level twice, no pages to clean up, -1.0 as the number of
 -- heap tuples at the last cleanup, and whether equal keys have equal images

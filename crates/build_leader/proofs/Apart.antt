@@ -2,6 +2,7 @@
 use Rattle.std.proofs.Common.{◌≡◌, ◌≢◌, ℕ, zero, suc, ◌+◌, ◌<◌, ◌≤◌, List, [], ◌∷◌, ◌++◌, sym, ap, subst, ◌∙◌, inl, inr, arith, get_or, All}
 use Rattle.std.specs.List.{range_with_len}
 use Rattle.std.proofs.lemmas.List.Elements.{All-append, All-cons, All-head, All-nil, All-same, All-tail, All-weaker}
+use Rattle.pg_bytes.specs.Blocks.{block_at, block_count}
 use Rattle.pg_bytes.specs.declared.row_ptr.RowPtr.{RowPtr}
 use Rattle.opclass.specs.declared.spec.IndexSpec.{IndexSpec}
 use Rattle.opclass.specs.declared.table.Table.{Table}
@@ -10,7 +11,6 @@ use Rattle.hot_chain.specs.Roots.{AreRows, HasSoundChains, IsRoot, Row}
 use Rattle.shared_tape.specs.declared.stored.Record.{Record}
 use Rattle.run_merge.proofs.Sorting.{Pairs, Pairs-from, Pairs-to}
 use Rattle.run_merge.specs.Sorted.{AreApart}
-use Rattle.build_leader.specs.Blocks.{block_count, page_of}
 use Rattle.build_leader.specs.HeapRows.{AreBlockRows, AreHeapRows, AreRowsOfBlocks, HasSoundBlocks}
 use Rattle.build_leader.specs.IndexRow.{AreIndexRows}
 
@@ -78,9 +78,9 @@ module _ (table : Table) (spec : IndexSpec) where
     of_block : (block : ℕ) (records : List Record) → AreBlockRows table spec heap block records
         → All (IsOfBlock block) records
     of_block block records are =
-        All-weaker (PointsTo (page_of heap block) block (λ row. Unit {0})) (IsOfBlock block)
+        All-weaker (PointsTo (block_at block heap) block (λ row. Unit {0})) (IsOfBlock block)
         (λ other at. ap (λ (ptr : RowPtr). ptr.block) at.2) records
-        (points_to (page_of heap block) block (λ row. Unit {0}) are.0 records (λ k d inside. tt) are.2)
+        (points_to (block_at block heap) block (λ row. Unit {0}) are.0 records (λ k d inside. tt) are.2)
 
     -- a row of the index points to a block from this one on
     abbrev IsFrom : ℕ → Record → Type 0
@@ -97,12 +97,12 @@ module _ (table : Table) (spec : IndexSpec) where
         (from_block (from + 1) count are.1.0 are.1.3)))
 
     blocks_apart : (from count : ℕ) (records : List Record)
-        → ((block : ℕ) → block < from + count → HasSoundChains (page_of heap block))
+        → ((block : ℕ) → block < from + count → HasSoundChains (block_at block heap))
         → AreRowsOfBlocks table spec heap (range_with_len from count) records → Pairs Differ records
     blocks_apart from zero records sound are = subst (Pairs Differ) (sym are) tt
     blocks_apart from (suc count) records sound are =
-        let here : Pairs Differ are.0 = index_rows_apart (page_of heap from) from are.1.2.0 are.0
-        (roots_differ (page_of heap from) are.1.2.0 (sound from (omega arith)) are.1.2.1) are.1.2.2 in
+        let here : Pairs Differ are.0 = index_rows_apart (block_at from heap) from are.1.2.0 are.0
+        (roots_differ (block_at from heap) are.1.2.0 (sound from (omega arith)) are.1.2.1) are.1.2.2 in
         let others : Pairs Differ are.1.0 = blocks_apart (from + 1) count are.1.0
         (λ block below. sound block (omega arith)) are.1.3 in
         let behind : All (IsFrom (from + 1)) are.1.0 = from_block (from + 1) count are.1.0 are.1.3 in

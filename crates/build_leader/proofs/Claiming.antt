@@ -5,12 +5,12 @@ use Rattle.std.specs.List.{range_with_len}
 use Rattle.std.proofs.lemmas.Bool.{cases_lt, le-ltb, lt-ltb}
 use Rattle.std.proofs.lemmas.List.{append-nil, append_assoc, length-append}
 use Rattle.std.proofs.lemmas.List.Elements.{All-push}
+use Rattle.pg_bytes.specs.Blocks.{block_count}
 use Rattle.block_claim.specs.declared.claim.Claim.{Claim}
 use Rattle.block_claim.specs.Calls.{ClaimsAreLegal, IsSeatOf, MakesClaim, NoReportIsMissed, ScanState, SeatState}
 use Rattle.block_claim.specs.Ramp.{claim_at}
 use Rattle.block_claim.specs.Views.{least_of}
 use Rattle.build_leader.specs.declared.worker.Share.{Share}
-use Rattle.build_leader.specs.Blocks.{block_count}
 use Rattle.build_leader.specs.Claimed.{blocks_of_claim, claimed_blocks}
 use Rattle.build_leader.specs.Reader.{ReaderView}
 use Rattle.build_leader.specs.Scanning.{HasTaken, IsBetweenClaims, IsWorker, KeepsLeast, TakesBlocks}

@@ -4,6 +4,7 @@ use Rattle.std.specs.Prelude.{IsTrue, Option, Some, slice_get}
 use Rattle.std.proofs.lemmas.Bool.{cases_order}
 use Rattle.std.proofs.lemmas.Option.{same_Some}
 use Rattle.pg_bytes.proofs.LeastFaults.{least-fault-is-one}
+use Rattle.pg_bytes.specs.Blocks.{block_at, block_count}
 use Rattle.pg_bytes.specs.declared.row_ptr.RowPtr.{RowPtr}
 use Rattle.opclass.specs.declared.spec.IndexSpec.{IndexSpec}
 use Rattle.opclass.specs.declared.table.Table.{Table}
@@ -15,7 +16,6 @@ use Rattle.hot_chain.specs.Roots.{HasChainFault, number_of_root_cause}
 use Rattle.shared_tape.specs.declared.stored.Record.{Record}
 use Rattle.run_merge.proofs.Sorting.{sorted_one}
 use Rattle.run_merge.specs.Sorted.{IsSortedRecords}
-use Rattle.build_leader.specs.Blocks.{block_count, page_of}
 use Rattle.build_leader.specs.HeapRows.{AreHeapRows, HasSoundBlocks, IsBlockFault, IsFirstFault, IsSoundBlock, OfChains, OfItems, OfPage}
 use Rattle.build_leader.specs.IndexRow.{HasItemFault, index_kinds, number_of_item_cause}
 use Rattle.build_leader.specs.Laws.{BuildOutcomeIsDetermined}
@@ -53,20 +53,20 @@ module _ (table : Table) (spec : IndexSpec) (heap : List ℕ) where
       → Faulty b i c ≡ Faulty b' i' c'
   same_first_fault b i c b' i' c' x y = elim (cases_order b b') [
     | inl same ↦
-        let there : IsBlockFault table spec (page_of heap b) i' c' =
-        subst (λ (block : ℕ). IsBlockFault table spec (page_of heap block) i' c') (sym same) y.fault in
-        let rest = same_block_fault table spec (page_of heap b) i c i' c' x.fault there in
+        let there : IsBlockFault table spec (block_at b heap) i' c' =
+        subst (λ (block : ℕ). IsBlockFault table spec (block_at block heap) i' c') (sym same) y.fault in
+        let rest = same_block_fault table spec (block_at b heap) i c i' c' x.fault there in
         ap (λ (block : ℕ). Faulty block i c) same ∙ ap₂ (Faulty b') rest.0 rest.1
     | inr differ ↦ elim differ [
-      | inl less ↦ absurd (no_block_fault table spec (page_of heap b) i c (y.first b less) x.fault)
-      | inr more ↦ absurd (no_block_fault table spec (page_of heap b') i' c' (x.first b' more) y.fault)
+      | inl less ↦ absurd (no_block_fault table spec (block_at b heap) i c (y.first b less) x.fault)
+      | inr more ↦ absurd (no_block_fault table spec (block_at b' heap) i' c' (x.first b' more) y.fault)
     ]
   ]
 
-  no_first_fault : (block item cause : ℕ) → HasSoundBlocks table spec heap → IsFirstFault table spec heap block item cause
-      → ⊥
+  pub no_first_fault : (block item cause : ℕ) → HasSoundBlocks table spec heap
+      → IsFirstFault table spec heap block item cause → ⊥
   no_first_fault block item cause sound fault =
-      no_block_fault table spec (page_of heap block) item cause (sound block fault.inside) fault.fault
+      no_block_fault table spec (block_at block heap) item cause (sound block fault.inside) fault.fault
 
   -- ---- sorted rows
 

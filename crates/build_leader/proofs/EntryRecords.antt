@@ -10,6 +10,7 @@ use Rattle.std.proofs.lemmas.List.Elements.{All-append, All-cons, All-from_get_o
 use Rattle.std.proofs.lemmas.List.FromFn.{get_or-range_with_len, length-range_with_len}
 use Rattle.std.proofs.lemmas.List.Sorted.{All-permutation}
 use Rattle.std.proofs.lemmas.Map.Keys.{sorted_head, sorted_tail}
+use Rattle.pg_bytes.specs.Blocks.{block_at, block_count}
 use Rattle.pg_bytes.specs.declared.row_ptr.RowPtr.{RowPtr}
 use Rattle.pg_bytes.specs.PageLayout.{page_size}
 use Rattle.opclass.specs.declared.spec.IndexSpec.{IndexSpec}
@@ -47,7 +48,7 @@ use Rattle.run_merge.proofs.Sorting.{Pairs, Pairs-from, Pairs-moved, Pairs-to}
 use Rattle.gin_file.specs.EntryTuple.{most_size}
 use Rattle.gin_file.specs.Entry.{IsEntry}
 use Rattle.gin_pack.specs.Records.{IsEntryRecord}
-use Rattle.build_leader.specs.Blocks.{IsWhole, block_count, most_blocks, page_of}
+use Rattle.build_leader.specs.Blocks.{IsHeapFile, most_blocks}
 use Rattle.build_leader.specs.Entries.{HasWideEntry, array_of, row_entries, rows_entries}
 use Rattle.build_leader.specs.HeapRows.{AreBlockRows, AreHeapRows, AreRowsOfBlocks, HasSoundBlocks, IsSoundBlock}
 use Rattle.build_leader.specs.IndexRow.{AreIndexRows, HasIndexValues, IsIndexRow, index_columns, index_kinds, key_columns, needed_of}
@@ -277,14 +278,14 @@ module _ (table : Table) (spec : IndexSpec) (kind : ColType) (over : IsIndexOver
   module _ (heap : List ℕ) where
     -- a block that can be read, with a number of four bytes and no entry that is too large
     record IsReadable (block : ℕ) : Type 0 where
-      pub sound : IsSoundBlock table spec (page_of heap block)
+      pub sound : IsSoundBlock table spec (block_at block heap)
       pub few : block < 2 ^ 32
-      pub none : NoneWide (page_of heap block)
+      pub none : NoneWide (block_at block heap)
 
     block_taken : (block : ℕ) (records : List Record) → IsReadable block → AreBlockRows table spec heap block records
         → All Taken records
     block_taken block records can are =
-        all_taken (page_of heap block) block can.sound.sound can.few can.none are.0 records are.1.each are.2
+        all_taken (block_at block heap) block can.sound.sound can.few can.none are.0 records are.1.each are.2
 
     blocks_taken : (blocks : List ℕ) (records : List Record) → All IsReadable blocks
         → AreRowsOfBlocks table spec heap blocks records → All Taken records
@@ -295,8 +296,8 @@ module _ (table : Table) (spec : IndexSpec) (kind : ColType) (over : IsIndexOver
         (blocks_taken blocks are.1.0 (All-tail IsReadable block blocks can) are.1.3))
 
     -- the entries of the rows of a sound heap without entries that are too large are what an index is packed from
-    pub entries_are_records : (rows : List Record) → IsWhole heap → HasSoundBlocks table spec heap
-        → ((block : ℕ) → block < block_count heap → NoneWide (page_of heap block))
+    pub entries_are_records : (rows : List Record) → IsHeapFile heap → HasSoundBlocks table spec heap
+        → ((block : ℕ) → block < block_count heap → NoneWide (block_at block heap))
         → AreHeapRows table spec heap rows → All (IsEntryRecord kind) (rows_entries rows)
     entries_are_records rows whole sound none are =
         let blocks = range_with_len 0 (block_count heap) in
@@ -312,8 +313,8 @@ module _ (table : Table) (spec : IndexSpec) (kind : ColType) (over : IsIndexOver
         are)
 
     -- in whatever order they are
-    pub are_entries : (rows records : List Record) → IsWhole heap → HasSoundBlocks table spec heap
-        → ((block : ℕ) → block < block_count heap → NoneWide (page_of heap block))
+    pub are_entries : (rows records : List Record) → IsHeapFile heap → HasSoundBlocks table spec heap
+        → ((block : ℕ) → block < block_count heap → NoneWide (block_at block heap))
         → AreHeapRows table spec heap rows → IsPermutation (rows_entries rows) records
         → length records < most_records → AreEntries (index_kinds table spec) entry_order records
     are_entries rows records whole sound none are same few = record {

@@ -5,6 +5,7 @@ use Rattle.std.specs.List.{range_with_len}
 use Rattle.std.proofs.lemmas.Bool.{lt-ltb}
 use Rattle.std.proofs.lemmas.List.Elements.{All-contains}
 use Rattle.std.proofs.lemmas.List.Sorted.{length_permutation}
+use Rattle.pg_bytes.specs.Blocks.{block_count}
 use Rattle.block_claim.specs.declared.claim.Claim.{Claim}
 use Rattle.block_claim.specs.Calls.{HasWholeShare, ScanState, SeatState}
 use Rattle.block_claim.specs.Legal.{IsLegalInSomeOrder}
@@ -15,7 +16,6 @@ use Rattle.build_leader.specs.declared.plan.Plan.{Plan}
 use Rattle.build_leader.specs.declared.scanned.Scanned.{Scanned}
 use Rattle.build_leader.specs.declared.team.Team.{Team}
 use Rattle.build_leader.specs.declared.worker.BlockFault.{BlockFault}
-use Rattle.build_leader.specs.Blocks.{block_count}
 use Rattle.build_leader.specs.Calls.{CountsRows, IsFinished, IsOpenedFor, IsPlan, IsScanFault, IsScanned}
 use Rattle.build_leader.specs.Claimed.{claimed_blocks}
 use Rattle.build_leader.specs.HeapRows.{HasSoundBlocks, IsFirstFault}

@@ -22,7 +22,7 @@ use Rattle.brin_summary.specs.Tuple.{bounds_of}
 use Rattle.brin_summary.proofs.Bounds.{summaries_tight}
 use Rattle.brin_summary.proofs.Rooms.{few_bounds}
 use Rattle.shared_tape.specs.declared.stored.Record.{Record}
-use Rattle.build_leader.specs.declared.ranges.SummedRange.{SummedRange}
+use Rattle.brin_summary.specs.declared.ranges.SummedRange.{SummedRange}
 use Rattle.build_leader.specs.Ranges.{HoldRanges, range_summary, told_of, values_in}
 use Rattle.build_leader.proofs.Holding.{IsOfRange}
 use Rattle.build_leader.proofs.Reading.{few_bytes}

@@ -11,7 +11,7 @@ use Rattle.opclass.specs.declared.spec.IndexSpec.{IndexSpec}
 use Rattle.brin_summary.specs.Summary.{joined, summary_of}
 use Rattle.brin_summary.proofs.Joining.{any_order, summary_of_append}
 use Rattle.shared_tape.specs.declared.stored.Record.{Record}
-use Rattle.build_leader.specs.declared.ranges.SummedRange.{SummedRange}
+use Rattle.brin_summary.specs.declared.ranges.SummedRange.{SummedRange}
 use Rattle.build_leader.specs.Ranges.{HoldRanges, range_count, range_of, range_summaries, range_summary, told_of, told_ranges, values_in}
 use Rattle.build_leader.proofs.Lists.{map_same}
 use Rattle.build_leader.proofs.Telling.{told_both}

@@ -6,6 +6,7 @@ use Rattle.std.proofs.lemmas.Bool.{cases_lt}
 use Rattle.std.proofs.lemmas.List.{length-append, length-map}
 use Rattle.std.proofs.lemmas.List.Elements.{All-append, All-cons, All-from_get_or, All-head, All-map, All-nil, All-same, All-tail, All-weaker}
 use Rattle.std.proofs.lemmas.List.FromFn.{get_or-range_with_len, length-range_with_len}
+use Rattle.pg_bytes.specs.Blocks.{block_at, block_count}
 use Rattle.opclass.specs.declared.spec.IndexSpec.{IndexSpec}
 use Rattle.opclass.specs.declared.spec.KeyCol.{KeyCol}
 use Rattle.opclass.specs.declared.table.Table.{Table}
@@ -20,7 +21,6 @@ use Rattle.btree_item.specs.Tuple.{size_of}
 use Rattle.btree_pack.specs.Pass.Put.{AreColumnsOf}
 use Rattle.btree_pack.specs.Pass.Taken.{IsRowOf, row_of}
 use Rattle.build_leader.specs.declared.width.WidthCause.TheVariants as width
-use Rattle.build_leader.specs.Blocks.{block_count, page_of}
 use Rattle.build_leader.specs.HeapRows.{AreBlockRows, AreHeapRows, AreRowsOfBlocks, HasSoundBlocks, HasSoundItems, IsSoundBlock}
 use Rattle.build_leader.specs.IndexRow.{AreIndexRows, AreValuesOf, HasIndexValues, TooWide, index_columns, index_kinds, key_columns, most_tuple, needed_of}
 use Rattle.build_leader.specs.Pass.{AreRowsOf}
@@ -111,12 +111,12 @@ module _ (table : Table) (spec : IndexSpec) (over : IsIndexOver table spec) wher
 
   module _ (tree : spec.method ≡ BTree) (heap : List ℕ) where
     abbrev SoundAt : ℕ → Type 0
-    SoundAt block = IsSoundBlock table spec (page_of heap block)
+    SoundAt block = IsSoundBlock table spec (block_at block heap)
 
     block_rows : (block : ℕ) (records : List Record) → SoundAt block → AreBlockRows table spec heap block records
         → AreRowsOf spec (index_kinds table spec) records
     block_rows block records sound are =
-        are_rows tree (page_of heap block) sound.items block are.0 records (λ k d inside. (are.1.each k d inside).0) are.2
+        are_rows tree (block_at block heap) sound.items block are.0 records (λ k d inside. (are.1.each k d inside).0) are.2
 
     blocks_rows : (blocks : List ℕ) (records : List Record) → All SoundAt blocks
         → AreRowsOfBlocks table spec heap blocks records → AreRowsOf spec (index_kinds table spec) records

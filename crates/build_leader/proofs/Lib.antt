@@ -1,4 +1,5 @@
--- Other crates cite `same_outcome` of Determined. The rest is this crate's own.
+-- Other crates cite `same_outcome`, `same_sorted` and `no_first_fault` of Determined and `neighbours_tell` of
+-- Neighbours. The rest is this crate's own.
 
 -- a heap has one list of rows of an index
 pub mod SameRows

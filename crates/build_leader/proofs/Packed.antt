@@ -3,6 +3,7 @@ use Rattle.std.proofs.Common.{◌≡◌, ◌≢◌, ℕ, ◌+◌, ◌^◌, ◌<�
 use Rattle.std.specs.Prelude.{IfOk}
 use Rattle.std.specs.List.Sorted.{IsPermutation}
 use Rattle.std.proofs.lemmas.List.Sorted.{All-permutation, IsPermutation-trans, length_permutation}
+use Rattle.pg_bytes.specs.Blocks.{block_count}
 use Rattle.opclass.specs.declared.spec.IndexSpec.{IndexSpec}
 use Rattle.opclass.specs.declared.spec.SortPart.{SortPart}
 use Rattle.opclass.specs.declared.types.ColType.{ColType}
@@ -24,10 +25,9 @@ use Rattle.btree_pack.specs.Pass.Taken.{IsRowOf, row_of}
 use Rattle.build_leader.specs.declared.fault.LeadFault.{LeadFault}
 use Rattle.build_leader.specs.declared.fault.LeadFault.TheVariants as lead
 use Rattle.build_leader.specs.declared.plan.Plan.{Plan}
-use Rattle.build_leader.specs.declared.ranges.SummedRange.{SummedRange}
+use Rattle.brin_summary.specs.declared.ranges.SummedRange.{SummedRange}
 use Rattle.build_leader.specs.declared.taken.Packed.{Packed}
 use Rattle.build_leader.specs.declared.width.WidthCause.TheVariants as width
-use Rattle.build_leader.specs.Blocks.{block_count}
 use Rattle.build_leader.specs.Calls.{IsLeadFault, IsPlan, fault_of_ranges}
 use Rattle.build_leader.specs.Entries.{rows_entries}
 use Rattle.build_leader.specs.Gin.{AreEntries, most_records}

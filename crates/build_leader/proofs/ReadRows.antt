@@ -4,6 +4,7 @@ use Rattle.std.specs.List.{range_with_len}
 use Rattle.std.proofs.lemmas.Bool.{eqb-true}
 use Rattle.std.proofs.lemmas.List.{length-take}
 use Rattle.std.proofs.lemmas.List.Elements.{All-append, All-cons, All-drop, All-nil, All-same, All-take, All-weaker}
+use Rattle.pg_bytes.specs.Blocks.{block_at, block_count}
 use Rattle.pg_bytes.specs.PageLayout.{page_size}
 use Rattle.opclass.specs.declared.spec.IndexSpec.{IndexSpec}
 use Rattle.opclass.specs.declared.table.Column.{Column}
@@ -18,7 +19,6 @@ use Rattle.heap_row.specs.Typed.{AreReadOf, HasAtMost, IsReadOf}
 use Rattle.heap_row.proofs.Contents.{data_short}
 use Rattle.heap_row.proofs.ReadValues.{are_read}
 use Rattle.shared_tape.specs.declared.stored.Record.{Record}
-use Rattle.build_leader.specs.Blocks.{block_count, page_of}
 use Rattle.build_leader.specs.HeapRows.{AreHeapRows, AreRowsOfBlocks}
 use Rattle.build_leader.specs.IndexRow.{AreIndexRows, AreValuesOf, HasIndexValues, index_columns, key_columns, needed_of}
 use Rattle.build_leader.proofs.Lists.{all_front}
@@ -100,13 +100,13 @@ module _ (table : Table) (spec : IndexSpec) where
         (All-cons IsReadRow has.0 has.1.0 (row_read row.item has.0 has.1.2.values) (rows_read block rows has.1.0 has.1.3))
 
   module _ (heap : List ℕ) (bytes : All IsByte heap) where
-    page_bytes : (block : ℕ) → All IsByte (page_of heap block)
-    unfolding page_of
-    page_bytes block = All-take IsByte page_size (drop (block * page_size) heap) (All-drop IsByte (block * page_size) heap bytes)
+    page_bytes : (block : ℕ) → All IsByte (block_at block heap)
+    unfolding block_at
+    page_bytes block = All-take IsByte page_size (drop (page_size * block) heap) (All-drop IsByte (page_size * block) heap bytes)
 
-    page_short : (block : ℕ) → length (page_of heap block) ≤ page_size
-    unfolding page_of
-    page_short block = let size = length-take page_size (drop (block * page_size) heap) in omega arith
+    page_short : (block : ℕ) → length (block_at block heap) ≤ page_size
+    unfolding block_at
+    page_short block = let size = length-take page_size (drop (page_size * block) heap) in omega arith
 
     blocks_read : (blocks : List ℕ) (records : List Record) → AreRowsOfBlocks table spec heap blocks records
         → All IsReadRow records
@@ -114,7 +114,7 @@ module _ (table : Table) (spec : IndexSpec) where
     blocks_read (block ∷ blocks) records are =
         All-same IsReadRow records (are.0 ++ are.1.0) are.1.1
         (All-append IsReadRow are.0 are.1.0
-        (rows_read (page_of heap block) (page_bytes block) (page_short block) block are.1.2.0 are.0 are.1.2.2)
+        (rows_read (block_at block heap) (page_bytes block) (page_short block) block are.1.2.0 are.0 are.1.2.2)
         (blocks_read blocks are.1.0 are.1.3))
 
     -- the rows of a heap

@@ -1,5 +1,6 @@
 -- A heap has one list of rows of an index at most.
 use Rattle.std.proofs.Common.{◌≡◌, ℕ, List, [], ◌∷◌, ◌++◌, Some, map, sym, ap, ap₂, subst, ◌∙◌, inl, inr}
+use Rattle.pg_bytes.specs.Blocks.{block_at}
 use Rattle.opclass.specs.declared.spec.IndexSpec.{IndexSpec}
 use Rattle.opclass.specs.declared.table.Table.{Table}
 use Rattle.opclass.specs.declared.value.KeyVal.{KeyVal}
@@ -7,7 +8,6 @@ use Rattle.opclass.specs.Filter.{PassesFilter, value_of}
 use Rattle.hot_chain.proofs.RootLaws.{same_rows}
 use Rattle.hot_chain.specs.Roots.{Row}
 use Rattle.shared_tape.specs.declared.stored.Record.{Record}
-use Rattle.build_leader.specs.Blocks.{page_of}
 use Rattle.build_leader.specs.HeapRows.{AreBlockRows, AreRowsOfBlocks}
 use Rattle.build_leader.specs.IndexRow.{AreIndexRows, AreValuesOf, HasIndexValues, IsIndexRow, IsLeftOut, key_columns, needed_of}
 use Rattle.build_leader.specs.Laws.{HeapRowsAreDetermined}
@@ -62,9 +62,9 @@ module _ (table : Table) (spec : IndexSpec) (heap : List ℕ) where
   same_block_rows : (block : ℕ) (a b : List Record) → AreBlockRows table spec heap block a
       → AreBlockRows table spec heap block b → a ≡ b
   same_block_rows block a b x y =
-      let same : y.0 ≡ x.0 = same_rows (page_of heap block) y.0 x.0 y.1 x.1 in
-      same_index_rows table spec (page_of heap block) block x.0 a b x.2
-      (subst (λ rows. AreIndexRows table spec (page_of heap block) block rows b) same y.2)
+      let same : y.0 ≡ x.0 = same_rows (block_at block heap) y.0 x.0 y.1 x.1 in
+      same_index_rows table spec (block_at block heap) block x.0 a b x.2
+      (subst (λ rows. AreIndexRows table spec (block_at block heap) block rows b) same y.2)
 
   pub same_rows_of_blocks : (blocks : List ℕ) (a b : List Record) → AreRowsOfBlocks table spec heap blocks a
       → AreRowsOfBlocks table spec heap blocks b → a ≡ b

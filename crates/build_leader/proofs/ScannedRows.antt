@@ -4,6 +4,7 @@ use Rattle.std.specs.List.{range_with_len}
 use Rattle.std.proofs.lemmas.List.Elements.{All-append, All-head, All-nil, All-tail, All-weaker}
 use Rattle.std.proofs.lemmas.List.Sorted.{IsPermutation-sym}
 use Rattle.std.proofs.lemmas.Option.{slice_get-get_or}
+use Rattle.pg_bytes.specs.Blocks.{block_count}
 use Rattle.block_claim.specs.declared.claim.Claim.{Claim}
 use Rattle.block_claim.specs.Calls.{ScanState, SeatState}
 use Rattle.block_claim.specs.Legal.{IsLegal}
@@ -14,10 +15,9 @@ use Rattle.shared_tape.specs.Stored.{IsStorable}
 use Rattle.spool.specs.Spools.{AreBoundedRuns, IsBoundedRun}
 use Rattle.run_merge.specs.Sorted.{AllHaveOrder, all_records}
 use Rattle.build_leader.specs.declared.plan.Plan.{Plan}
-use Rattle.build_leader.specs.declared.ranges.SummedRange.{SummedRange}
+use Rattle.brin_summary.specs.declared.ranges.SummedRange.{SummedRange}
 use Rattle.build_leader.specs.declared.scanned.Scanned.{Scanned}
 use Rattle.build_leader.specs.declared.taken.Packed.{Packed}
-use Rattle.build_leader.specs.Blocks.{block_count}
 use Rattle.build_leader.specs.Calls.{ArePartsFrom, IsBuilt, IsOpenedFor, IsPartOf, IsScanned}
 use Rattle.build_leader.specs.Holding.{HoldRows, held_on, order_by}
 use Rattle.build_leader.specs.Laws.{AreRowsOfWorkers, ClaimsShareTheRows}

@@ -7,6 +7,7 @@ use Rattle.std.proofs.lemmas.Bool.Decides.{nat_tests}
 use Rattle.std.proofs.lemmas.List.Elements.{All-head, All-tail, All-weaker}
 use Rattle.std.proofs.lemmas.List.Sums.{sum_by-cons}
 use Rattle.std.proofs.lemmas.List.Sorted.{IsPermutation-append_right, IsPermutation-refl, IsPermutation-trans}
+use Rattle.pg_bytes.specs.Blocks.{block_count}
 use Rattle.opclass.specs.declared.spec.IndexSpec.{IndexSpec}
 use Rattle.opclass.specs.declared.table.Table.{Table}
 use Rattle.block_claim.specs.declared.claim.Claim.{Claim}
@@ -15,7 +16,6 @@ use Rattle.block_claim.specs.Ramp.{claims_by}
 use Rattle.block_claim.proofs.LegalLaws.{each_once}
 use Rattle.shared_tape.specs.declared.stored.Record.{Record}
 use Rattle.run_merge.proofs.Moves.{moves, turn_lists}
-use Rattle.build_leader.specs.Blocks.{block_count}
 use Rattle.build_leader.specs.Claimed.{blocks_of_claim, claimed_blocks}
 use Rattle.build_leader.specs.HeapRows.{AreRowsOfBlocks}
 use Rattle.build_leader.specs.Laws.{AreRowsOfWorkers, ClaimsShareTheRows}

@@ -10,7 +10,7 @@ use Rattle.opclass.specs.declared.value.KeyVal.{KeyVal}
 use Rattle.brin_summary.specs.Summary.{RangeSummary, joined, summary_of}
 use Rattle.brin_summary.proofs.Joining.{joined_assoc}
 use Rattle.shared_tape.specs.declared.stored.Record.{Record}
-use Rattle.build_leader.specs.declared.ranges.SummedRange.{SummedRange}
+use Rattle.brin_summary.specs.declared.ranges.SummedRange.{SummedRange}
 use Rattle.build_leader.specs.Ranges.{HoldRanges, range_of, range_summary, told_of, values_in}
 use Rattle.build_leader.specs.Tally.{AreOfColumns, TakesIn, begun_range, ends_with}
 use Rattle.build_leader.proofs.Holding.{held_is_summary, range_summary-append, values_in-append}

@@ -8,6 +8,7 @@ use Rattle.std.proofs.lemmas.List.{append-nil, append_assoc, length-append}
 use Rattle.std.proofs.lemmas.List.Elements.{All-append, All-head, All-nil, All-tail, All-weaker, Contains-append_right, filter-append}
 use Rattle.std.proofs.lemmas.List.Kept.{AllPairs-cons}
 use Rattle.std.proofs.lemmas.Option.{slice_get_within}
+use Rattle.pg_bytes.specs.Blocks.{block_count}
 use Rattle.block_claim.specs.declared.claim.Claim.{Claim}
 use Rattle.block_claim.specs.declared.view.View.{View}
 use Rattle.block_claim.specs.Calls.{ClaimsAreLegal, IsFresh, IsSeatOf, NoReportIsMissed, ScanState, SeatState, is_done, ramp_of_seat}
@@ -20,13 +21,12 @@ use Rattle.shared_tape.specs.declared.stored.Record.{Record}
 use Rattle.shared_tape.specs.Runs.{RunView, records_of}
 use Rattle.run_merge.specs.Sorted.{all_records}
 use Rattle.build_leader.specs.declared.plan.Plan.{Plan}
-use Rattle.build_leader.specs.declared.ranges.SummedRange.{SummedRange}
+use Rattle.brin_summary.specs.declared.ranges.SummedRange.{SummedRange}
 use Rattle.build_leader.specs.declared.row_slot.RowSlot.{RowSlot}
 use Rattle.build_leader.specs.declared.sink.Sink.{Sink}
 use Rattle.build_leader.specs.declared.team.Team.{Team}
 use Rattle.build_leader.specs.declared.worker.BlockFault.{BlockFault}
 use Rattle.build_leader.specs.declared.worker.Share.{Share}
-use Rattle.build_leader.specs.Blocks.{block_count}
 use Rattle.build_leader.specs.Calls.{ArePartsFrom, IsPartOf}
 use Rattle.build_leader.specs.Claimed.{claimed_blocks, blocks_of_claim}
 use Rattle.build_leader.specs.HeapRows.{AreRowsOfBlocks}

@@ -6,7 +6,7 @@ use Rattle.std.proofs.lemmas.List.FromFn.{length-map-range_with_len}
 use Rattle.opclass.specs.declared.value.KeyVal.{KeyVal}
 use Rattle.brin_summary.specs.Summary.{ColumnSummary, RangeSummary, column_summary, joined, joined_columns, summary_of, value_in}
 use Rattle.brin_summary.proofs.Joining.{joined_assoc, joined_comm, summary_of_append}
-use Rattle.build_leader.specs.declared.ranges.SummedRange.{SummedRange}
+use Rattle.brin_summary.specs.declared.ranges.SummedRange.{SummedRange}
 use Rattle.build_leader.specs.Ranges.{told_of}
 use Rattle.build_leader.specs.Tally.{AreOfColumns, begun_range}
 

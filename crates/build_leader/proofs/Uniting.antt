@@ -10,7 +10,7 @@ use Rattle.std.proofs.lemmas.List.Elements.{All-head, All-map}
 use Rattle.std.proofs.lemmas.List.FromFn.{fill_by_all, get_or-map-range_with_len, length-map-range_with_len, map-range_with_len_more}
 use Rattle.opclass.specs.declared.spec.IndexSpec.{IndexSpec}
 use Rattle.brin_summary.specs.Summary.{RangeSummary, joined, summary_of}
-use Rattle.build_leader.specs.declared.ranges.SummedRange.{SummedRange}
+use Rattle.brin_summary.specs.declared.ranges.SummedRange.{SummedRange}
 use Rattle.build_leader.specs.Ranges.{range_count, told_of, told_ranges}
 use Rattle.build_leader.specs.Tally.{AreOfColumns}
 use Rattle.build_leader.specs.Uniting.{AreTold, HaveColumns, told_each}

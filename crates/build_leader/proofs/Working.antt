@@ -4,6 +4,7 @@ use Rattle.std.specs.Prelude.{Contains}
 use Rattle.std.specs.List.{range_with_len}
 use Rattle.std.proofs.lemmas.List.{append-nil, append_assoc, length-append}
 use Rattle.std.proofs.lemmas.List.Elements.{All-push, All-weaker, Contains-append_left, Contains-push}
+use Rattle.pg_bytes.specs.Blocks.{block_at, block_count}
 use Rattle.opclass.specs.declared.spec.IndexSpec.{IndexSpec}
 use Rattle.opclass.specs.declared.table.Table.{Table}
 use Rattle.block_claim.specs.declared.claim.Claim.{Claim}
@@ -16,7 +17,6 @@ use Rattle.build_leader.specs.declared.row_slot.RowSlot.{RowSlot}
 use Rattle.build_leader.specs.declared.sink.Sink.{Sink}
 use Rattle.build_leader.specs.declared.worker.BlockFault.{BlockFault}
 use Rattle.build_leader.specs.declared.worker.Share.{Share}
-use Rattle.build_leader.specs.Blocks.{block_count, page_of}
 use Rattle.build_leader.specs.HeapRows.{AreBlockRows, AreRowsOfBlocks, IsBlockFault, IsSoundBlock}
 use Rattle.build_leader.specs.Holding.{StaysSuited, held_by}
 use Rattle.build_leader.specs.Reader.{ReaderView}
@@ -32,7 +32,7 @@ module _ (table : Table) (spec : IndexSpec) (heap : List ℕ) where
 
   -- the rows of one block more
   rows_more : (blocks : List ℕ) (block : ℕ) (old new : Sink) (before count : ℕ) → HasRowsOf table spec heap blocks (held_by old) before
-      → TakesPage table spec (page_of heap block) block old count new
+      → TakesPage table spec (block_at block heap) block old count new
       → HasRowsOf table spec heap (blocks ++ block ∷ []) (held_by new) (before + count)
   rows_more blocks block old new before count has takes =
       let taken = takes.2 in
@@ -85,8 +85,8 @@ module _ (reader : ReaderView) (heap : List ℕ) where
 
   -- a sound block is taken
   pub was_taken : (share : Share) (sink : Sink) (slot : RowSlot) (block rows count : ℕ)
-      → IsSoundBlock reader.table reader.spec (page_of heap block)
-      → TakesPage reader.table reader.spec (page_of heap block) block share.sink count sink → rows ≡ share.rows + count
+      → IsSoundBlock reader.table reader.spec (block_at block heap)
+      → TakesPage reader.table reader.spec (block_at block heap) block share.sink count sink → rows ≡ share.rows + count
       → TakesBlocks reader heap (block ∷ []) share (record share { sink = sink; slot = slot; rows = rows })
   was_taken share sink slot block rows count sound takes sum before has = record {
     judged = All-push (At share) before block has.judged (inl sound);
@@ -100,7 +100,7 @@ module _ (reader : ReaderView) (heap : List ℕ) where
   -- a block with a fault is reported, and its fault is kept
   pub was_reported : (old new : Share) (block item cause floor : ℕ) → block < block_count heap → block < unreported
       → block ≤ old.seat.view.seen → floor ≤ old.seat.view.seen
-      → IsBlockFault reader.table reader.spec (page_of heap block) item cause
+      → IsBlockFault reader.table reader.spec (block_at block heap) item cause
       → new.seat.view.reports ≡ old.seat.view.reports ++ block ∷ [] → new.seat.view.seen ≡ min floor block
       → new.fault ≡ Some (record { block = block; item = item; cause = cause })
       → TakesBlocks reader heap (block ∷ []) old new

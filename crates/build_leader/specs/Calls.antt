@@ -1,5 +1,6 @@
 -- What the calls ask and answer.
 use Rattle.std.specs.Prelude.{◌≡◌, ◌≤◌, ◌+◌, ⊤, ℕ, List, length, true, Some, slice_get}
+use Rattle.pg_bytes.specs.Blocks.{block_count}
 use Rattle.opclass.specs.Indexes.{IsIndexOver, IsTable}
 use Rattle.brin_summary.specs.declared.file.BrinFault.{BrinFault}
 use Rattle.brin_summary.specs.declared.file.BrinFault.TheVariants as brin
@@ -13,9 +14,9 @@ use Rattle.build_leader.specs.declared.built.Built.{Built}
 use Rattle.build_leader.specs.declared.fault.LeadFault.{LeadFault}
 use Rattle.build_leader.specs.declared.fault.LeadFault.TheVariants as lead
 use Rattle.build_leader.specs.declared.plan.Plan.{Plan}
-use Rattle.build_leader.specs.declared.ranges.SummedRange.{SummedRange}
+use Rattle.brin_summary.specs.declared.ranges.SummedRange.{SummedRange}
 use Rattle.build_leader.specs.declared.scanned.Scanned.{Scanned}
-use Rattle.build_leader.specs.Blocks.{IsWhole, block_count}
+use Rattle.build_leader.specs.Blocks.{IsHeapFile}
 use Rattle.build_leader.specs.Claimed.{AreClaimedRows}
 use Rattle.build_leader.specs.HeapRows.{AreHeapRows, HasSoundBlocks}
 use Rattle.build_leader.specs.Holding.{HoldRows, order_by}
@@ -30,7 +31,7 @@ pub record IsPlan (plan : Plan) : Type 0 where
 
 -- a scan that was opened for the blocks of a heap and the workers of a plan, with all its seats
 pub record IsOpenedFor (plan : Plan) (heap : List ℕ) (scan : ScanState) (seats : List SeatState) : Type 0 where
-  pub whole : IsWhole heap
+  pub whole : IsHeapFile heap
   pub blocks : scan.blocks ≡ block_count heap
   pub workers : scan.seats ≡ plan.workers + 1
   pub opened : AreOpened scan seats

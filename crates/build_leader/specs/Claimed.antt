@@ -1,12 +1,12 @@
 -- The blocks that claims have, and the rows of an index in them (table_block_parallelscan_nextpage of tableam.c).
 use Rattle.std.specs.Prelude.{ℕ, nat_lt, List, filter}
 use Rattle.std.specs.List.{flat_map, range_with_len}
+use Rattle.pg_bytes.specs.Blocks.{block_count}
 use Rattle.opclass.specs.declared.spec.IndexSpec.{IndexSpec}
 use Rattle.opclass.specs.declared.table.Table.{Table}
 use Rattle.block_claim.specs.declared.claim.Claim.{Claim}
 use Rattle.block_claim.specs.Ramp.{claims_by}
 use Rattle.shared_tape.specs.declared.stored.Record.{Record}
-use Rattle.build_leader.specs.Blocks.{block_count}
 use Rattle.build_leader.specs.HeapRows.{AreRowsOfBlocks}
 
 -- the blocks of a claim on a heap of so many: those of its numbers that are blocks

@@ -1,13 +1,13 @@
 -- The faults of a heap's blocks and the rows of an index over them (heapam_index_build_range_scan of heapam_handler.c).
 use Rattle.std.specs.Prelude.{◌≡◌, ℕ, ◌<◌, List, [], ◌∷◌, ◌++◌, length}
 use Rattle.std.specs.List.{range_with_len}
+use Rattle.pg_bytes.specs.Blocks.{block_at, block_count}
 use Rattle.pg_bytes.specs.LeastFault.{IsLeastFault}
 use Rattle.opclass.specs.declared.spec.IndexSpec.{IndexSpec}
 use Rattle.opclass.specs.declared.table.Table.{Table}
 use Rattle.heap_page.specs.Fault.{IsLeastPageFault, IsSoundPage}
 use Rattle.hot_chain.specs.Roots.{AreRows, HasSoundChains, IsLeastChainFault, Row}
 use Rattle.shared_tape.specs.declared.stored.Record.{Record}
-use Rattle.build_leader.specs.Blocks.{block_count, page_of}
 use Rattle.build_leader.specs.IndexRow.{AreIndexRows, HasItemFault, ItemCause, number_of_item_cause}
 
 -- no live item of the page has a fault
@@ -34,13 +34,13 @@ pub record IsSoundBlock (table : Table) (spec : IndexSpec) (page : List ℕ) : T
 -- the blocks below have no fault
 abbrev pub AreSoundBelow : Table → IndexSpec → List ℕ → ℕ → Type 0
 AreSoundBelow table spec heap block =
-    (lesser : ℕ) → lesser < block → IsSoundBlock table spec (page_of heap lesser)
+    (lesser : ℕ) → lesser < block → IsSoundBlock table spec (block_at lesser heap)
 
 -- the fault of the first block that has one
 pub record IsFirstFault (table : Table) (spec : IndexSpec) (heap : List ℕ) (block item cause : ℕ) : Type 0 where
   pub inside : block < block_count heap
   pub first : AreSoundBelow table spec heap block
-  pub fault : IsBlockFault table spec (page_of heap block) item cause
+  pub fault : IsBlockFault table spec (block_at block heap) item cause
 
 -- no block has a fault
 abbrev pub HasSoundBlocks : Table → IndexSpec → List ℕ → Type 0
@@ -49,8 +49,8 @@ HasSoundBlocks table spec heap = AreSoundBelow table spec heap (block_count heap
 -- the rows of an index in a block, in the order of its items
 abbrev pub AreBlockRows : Table → IndexSpec → List ℕ → ℕ → List Record → Type 0
 AreBlockRows table spec heap block records =
-    (rows : List Row) × AreRows (page_of heap block) rows
-    × AreIndexRows table spec (page_of heap block) block rows records
+    (rows : List Row) × AreRows (block_at block heap) rows
+    × AreIndexRows table spec (block_at block heap) block rows records
 
 -- the rows of an index in several blocks, block by block
 abbrev pub AreRowsOfBlocks : Table → IndexSpec → List ℕ → List ℕ → List Record → Type 0

@@ -13,7 +13,7 @@ use Rattle.shared_tape.specs.Runs.{RunView}
 use Rattle.shared_tape.specs.Stored.{IsStorable}
 use Rattle.spool.specs.Gathers.{AreStorableEntries}
 use Rattle.run_merge.specs.Sorted.{all_records}
-use Rattle.build_leader.specs.declared.ranges.SummedRange.{SummedRange}
+use Rattle.brin_summary.specs.declared.ranges.SummedRange.{SummedRange}
 use Rattle.build_leader.specs.declared.sink.Sink.{Sink}
 use Rattle.build_leader.specs.declared.sink.Sink.TheVariants.{Rows, Entries, Ranges}
 use Rattle.build_leader.specs.Entries.{array_of, rows_entries}

@@ -2,12 +2,12 @@
 use Rattle.std.specs.Prelude.{◌≡◌, ◌↔◌, ◌<◌, ℕ, List, [], ◌∷◌, ◌++◌, AllPairs}
 use Rattle.std.specs.List.{range_with_len}
 use Rattle.std.specs.List.Sorted.{IsPermutation}
+use Rattle.pg_bytes.specs.Blocks.{block_count}
 use Rattle.opclass.specs.declared.spec.IndexSpec.{IndexSpec}
 use Rattle.opclass.specs.declared.table.Table.{Table}
 use Rattle.block_claim.specs.declared.claim.Claim.{Claim}
 use Rattle.block_claim.specs.Legal.{IsLegal}
 use Rattle.shared_tape.specs.declared.stored.Record.{Record}
-use Rattle.build_leader.specs.Blocks.{block_count}
 use Rattle.build_leader.specs.Claimed.{AreClaimedRows}
 use Rattle.build_leader.specs.HeapRows.{AreHeapRows, HasSoundBlocks}
 use Rattle.build_leader.specs.Outcome.{AreSortedRows, BuildOutcome, HasBuildOutcome}

@@ -1,5 +1,6 @@
 -- What the blocks of a heap come to for an index, whoever scans them and in whatever order.
 use Rattle.std.specs.Prelude.{◌≡◌, ⊤, ℕ, IsTrue, List, length, map, None, Some}
+use Rattle.pg_bytes.specs.Blocks.{block_count}
 use Rattle.pg_bytes.specs.declared.row_ptr.RowPtr.{RowPtr}
 use Rattle.opclass.specs.declared.spec.IndexSpec.{IndexSpec}
 use Rattle.opclass.specs.declared.spec.SortPart.{SortPart}
@@ -13,7 +14,6 @@ use Rattle.btree_pack.specs.Nodes.{btree_file}
 use Rattle.btree_pack.specs.Pass.Taken.{row_of}
 use Rattle.brin_summary.specs.Answer.{wide_range}
 use Rattle.brin_summary.specs.File.{brin_file}
-use Rattle.build_leader.specs.Blocks.{block_count}
 use Rattle.build_leader.specs.Entries.{IsGinIndexOf, rows_entries}
 use Rattle.build_leader.specs.HeapRows.{AreHeapRows, HasSoundBlocks, IsFirstFault}
 use Rattle.build_leader.specs.IndexRow.{index_kinds}

@@ -1,5 +1,6 @@
 -- What workers have of a heap's rows, and the file that is packed of it.
 use Rattle.std.specs.Prelude.{◌≡◌, ℕ, List, All, length, None}
+use Rattle.pg_bytes.specs.Blocks.{block_count}
 use Rattle.brin_summary.specs.declared.file.BrinFault.{BrinFault}
 use Rattle.brin_summary.specs.Answer.{IsTold, wide_range}
 use Rattle.brin_summary.specs.File.{brin_file}
@@ -9,9 +10,9 @@ use Rattle.shared_tape.specs.Stored.{IsStorable}
 use Rattle.run_merge.specs.Sorted.{AllHaveOrder, all_records}
 use Rattle.build_leader.specs.declared.fault.LeadFault.{LeadFault}
 use Rattle.build_leader.specs.declared.plan.Plan.{Plan}
-use Rattle.build_leader.specs.declared.ranges.SummedRange.{SummedRange}
+use Rattle.brin_summary.specs.declared.ranges.SummedRange.{SummedRange}
 use Rattle.build_leader.specs.declared.taken.Packed.{Packed}
-use Rattle.build_leader.specs.Blocks.{IsWhole, block_count}
+use Rattle.build_leader.specs.Blocks.{IsHeapFile}
 use Rattle.build_leader.specs.Calls.{fault_of_ranges}
 use Rattle.build_leader.specs.IndexRow.{index_kinds}
 use Rattle.build_leader.specs.Ranges.{range_count, told_ranges}
@@ -23,7 +24,7 @@ use Rattle.build_leader.specs.Outcome.{AreIndexed, IsIndexFile, pairs_by}
 -- tapes and ranges hold the rows of an index over a heap without a fault, and so many they are
 pub record HaveHeapRows (plan : Plan) (heap : List ℕ) (tapes : List (List RunView)) (ranges : List (List SummedRange))
     (count : ℕ) : Type 0 where
-  pub whole : IsWhole heap
+  pub whole : IsHeapFile heap
   pub sound : HasSoundBlocks plan.table plan.spec heap
   pub rows : List Record
   pub of_heap : AreHeapRows plan.table plan.spec heap rows

@@ -6,7 +6,7 @@ use Rattle.opclass.specs.declared.spec.IndexSpec.{IndexSpec}
 use Rattle.opclass.specs.declared.value.KeyVal.{KeyVal}
 use Rattle.brin_summary.specs.Summary.{RangeSummary, joined, summary_of}
 use Rattle.shared_tape.specs.declared.stored.Record.{Record}
-use Rattle.build_leader.specs.declared.ranges.SummedRange.{SummedRange}
+use Rattle.brin_summary.specs.declared.ranges.SummedRange.{SummedRange}
 
 -- the range of a row, counted from 0: that of its block
 abbrev pub range_of : ℕ → Record → ℕ

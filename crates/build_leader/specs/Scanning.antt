@@ -1,5 +1,6 @@
 -- What the passes of a scan keep: the rows of a page, and those of the blocks that a worker was at.
 use Rattle.std.specs.Prelude.{◌≡◌, ◌⊎◌, ◌+◌, ◌*◌, ◌^◌, ◌<◌, ◌≤◌, ⊤, ℕ, Bool, true, false, List, [], ◌∷◌, ◌++◌, length, All, Contains, Option, Some, None}
+use Rattle.pg_bytes.specs.Blocks.{block_at, block_count}
 use Rattle.opclass.specs.declared.spec.IndexSpec.{IndexSpec}
 use Rattle.opclass.specs.declared.table.Table.{Table}
 use Rattle.hot_chain.specs.declared.fault.RootFault.{RootFault}
@@ -16,7 +17,7 @@ use Rattle.build_leader.specs.declared.row_slot.RowSlot.{RowSlot}
 use Rattle.build_leader.specs.declared.sink.Sink.{Sink}
 use Rattle.build_leader.specs.declared.worker.BlockFault.{BlockFault}
 use Rattle.build_leader.specs.declared.worker.Share.{Share}
-use Rattle.build_leader.specs.Blocks.{IsWhole, block_count, page_of}
+use Rattle.build_leader.specs.Blocks.{IsHeapFile}
 use Rattle.build_leader.specs.Claimed.{claimed_blocks}
 use Rattle.build_leader.specs.HeapRows.{AreRowsOfBlocks, IsBlockFault, IsSoundBlock}
 use Rattle.build_leader.specs.IndexRow.{AreIndexRows, IsIndexRow, IsLeftOut}
@@ -61,14 +62,14 @@ error_of_chains chains.Memory = error.Memory
 -- what a worker knows of a block that it was at: it is sound, or above a report that was seen, or reported
 abbrev pub IsJudged : Table → IndexSpec → List ℕ → View → ℕ → Type 0
 IsJudged table spec heap view block =
-    IsSoundBlock table spec (page_of heap block) ⊎ ((view.seen < block) ⊎ Contains view.reports block)
+    IsSoundBlock table spec (block_at block heap) ⊎ ((view.seen < block) ⊎ Contains view.reports block)
 
 -- the fault that is kept is that of the least report
 abbrev pub KeepsLeast : Table → IndexSpec → List ℕ → List ℕ → Option BlockFault → Type 0
 KeepsLeast table spec heap reports None = reports ≡ []
 KeepsLeast table spec heap reports (Some fault) =
     (fault.block ≡ least_of reports) × (fault.block < block_count heap)
-    × IsBlockFault table spec (page_of heap fault.block) fault.item fault.cause
+    × IsBlockFault table spec (block_at fault.block heap) fault.item fault.cause
 
 -- what is held are the rows of these blocks, and so many they are
 pub record HasRowsOf (table : Table) (spec : IndexSpec) (heap : List ℕ) (blocks : List ℕ) (held : Held) (count : ℕ)
@@ -135,7 +136,7 @@ pub record IsSameWorker (old new : Share) : Type 0 where
 
 -- a heap and a scan that was opened for its blocks, of a few workers
 pub record IsScanOf (heap : List ℕ) (scan : ScanState) : Type 0 where
-  pub whole : IsWhole heap
+  pub whole : IsHeapFile heap
   pub blocks : scan.blocks ≡ block_count heap
   pub seats : scan.seats ≤ 32
 

@@ -2,7 +2,7 @@
 use Rattle.std.specs.Prelude.{◌≡◌, ℕ, Bool, false, nat_eq, List, [], ◌∷◌, ◌++◌, length, All}
 use Rattle.opclass.specs.declared.value.KeyVal.{KeyVal}
 use Rattle.brin_summary.specs.Summary.{joined, summary_of}
-use Rattle.build_leader.specs.declared.ranges.SummedRange.{SummedRange}
+use Rattle.brin_summary.specs.declared.ranges.SummedRange.{SummedRange}
 
 -- each summary has so many columns
 abbrev pub AreOfColumns : ℕ → List SummedRange → Type 0

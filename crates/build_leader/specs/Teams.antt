@@ -3,6 +3,7 @@
 use Rattle.std.specs.Prelude.{◌≡◌, ℕ, nat_lt, ◌+◌, ◌*◌, ◌^◌, ◌<◌, ◌≤◌, true, if◌then◌else◌, List, [], ◌∷◌, ◌++◌, length, All, Option, Some, None, slice_get}
 use Rattle.std.specs.List.{sum_by}
 use Rattle.std.specs.List.Sorted.{IsPermutation}
+use Rattle.pg_bytes.specs.Blocks.{block_count}
 use Rattle.opclass.specs.declared.spec.IndexSpec.{IndexSpec}
 use Rattle.block_claim.specs.declared.claim.Claim.{Claim}
 use Rattle.block_claim.specs.Calls.{ClaimsAreLegal, IsFresh, IsSeatOf, NoReportIsMissed, ScanState, SeatState, is_done, with_view}
@@ -17,7 +18,6 @@ use Rattle.build_leader.specs.declared.scanned.Scanned.{Scanned}
 use Rattle.build_leader.specs.declared.team.Team.{Team}
 use Rattle.build_leader.specs.declared.worker.BlockFault.{BlockFault}
 use Rattle.build_leader.specs.declared.worker.Share.{Share}
-use Rattle.build_leader.specs.Blocks.{block_count}
 use Rattle.build_leader.specs.Calls.{ArePartsFrom}
 use Rattle.build_leader.specs.Claimed.{claimed_blocks}
 use Rattle.build_leader.specs.Holding.{IsSinkOf, held_by, held_on, order_by}

@@ -7,11 +7,10 @@ ghost use Rattle.brin_summary.specs.File.{brin_file};
 ghost use Rattle.build_leader.specs.Blocks.{most_blocks};
 ghost use Rattle.build_leader.specs.Ranges.{range_count, told_of, told_ranges};
 ghost use Rattle.build_leader.specs.Tally.{AreOfColumns};
-ghost use Rattle.build_leader.specs.declared.ranges.SummedRange.{SummedRange};
+ghost use Rattle.brin_summary.specs.declared.ranges.SummedRange.{SummedRange};
 ghost use Rattle.build_leader.specs.Uniting.{AreTold, HaveColumns, told_each};
 
-use crate::ranges::{RangeParts, SummedRange, SummedRanges};
-use brin_summary::{BrinFault, Summary, pack};
+use brin_summary::{BrinFault, RangeParts, Summary, SummedRange, SummedRanges, pack};
 use opclass::{IndexSpec, Kinds};
 use pg_bytes::IndexImage;
 use std::alloc::{AllocError, Global};

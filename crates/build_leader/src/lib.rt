@@ -113,6 +113,5 @@ pub use laws::{
 };
 pub use leader::build;
 pub use plan::Plan;
-pub use ranges::{RangeParts, SummedRange, SummedRanges};
 pub use scan::scan_heap;
 pub use scanned::Scanned;

@@ -7,24 +7,11 @@ ghost use Rattle.shared_tape.specs.declared.stored.Record.{Record};
 ghost use Rattle.build_leader.specs.Ranges.{HoldRanges};
 ghost use Rattle.build_leader.specs.Tally.{AreOfColumns, TakesIn, ends_with};
 
-use brin_summary::Summary;
+use brin_summary::{Summary, SummedRange, SummedRanges};
 use opclass::IndexSpec;
 use pg_bytes::Items;
 use shared_tape::Record;
 use std::alloc::{AllocError, Global};
-
-/// The summary of rows in a range of blocks, which is counted from 0.
-#[derive(Debug, Drop)]
-pub struct SummedRange {
-    pub range: u32,
-    pub summary: Summary,
-}
-
-/// What one worker knows of ranges.
-pub type SummedRanges = Items<SummedRange>;
-
-/// What each of several workers knows of ranges.
-pub type RangeParts = Items<SummedRanges>;
 
 /// The rows that a worker took, summed up by their ranges.
 #[derive(Drop)]

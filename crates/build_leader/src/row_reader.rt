@@ -14,7 +14,7 @@ use crate::refill::{copy_values, move_last, move_value};
 use crate::row_slot::RowSlot;
 use crate::width::check_width;
 use heap_page::View;
-use heap_row::{RowFault, read_values};
+use heap_row::{RowFault, read_values_into};
 use opclass::{Columns, IndexSpec, KeyList, Kinds, Method, Table, keeps, needed};
 use pg_bytes::RowPtr;
 use std::alloc::{AllocError, Global};
@@ -155,7 +155,7 @@ impl<'a> RowReader<'a> {
         ensures values { IfOk result (λ kept.
             AreNeededOrLeft self.now.table self.now.spec view.now.bytes item kept values.new) }
     {
-        read_values(alloc, view, item, self.table, &self.needed, values)?;
+        read_values_into(alloc, view, item, self.table, &self.needed, values)?;
         Ok(keeps(&self.spec.filter, &self.needed, values))
     }
 }

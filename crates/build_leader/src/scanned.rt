@@ -1,5 +1,5 @@
-use crate::ranges::RangeParts;
 use block_claim::ScanSeat;
+use brin_summary::RangeParts;
 use shared_tape::Tapes;
 
 /// A heap that was scanned: the tape of each worker, by its number, of which the leader's is the

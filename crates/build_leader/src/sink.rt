@@ -12,7 +12,8 @@ ghost use Rattle.build_leader.specs.Holding.{CanTake, IsSinkOf, StaysSuited, Sui
 
 use crate::columns::order_of;
 use crate::plan::Plan;
-use crate::ranges::{RangeTally, SummedRanges};
+use crate::ranges::RangeTally;
+use brin_summary::SummedRanges;
 use opclass::Method;
 use pg_bytes::Items;
 use shared_tape::{Record, Tape};

@@ -1,12 +1,13 @@
 //! What workers have of a heap's rows becomes the file of an index, by its method.
 
 ghost use Rattle.std.specs.Prelude.{◌≡◌, ◌<◌, ◌≤◌, ◌^◌, ℕ, All, IfErr, IfOk, length};
+ghost use Rattle.pg_bytes.specs.Blocks.{block_count};
 ghost use Rattle.brin_summary.specs.Answer.{tuple_size};
 ghost use Rattle.gin_entry.specs.EntryOrder.{entry_order};
 ghost use Rattle.shared_tape.specs.Stored.{IsStorable};
 ghost use Rattle.run_merge.specs.Sorted.{AllHaveOrder, all_records};
 ghost use Rattle.btree_pack.specs.Pass.Put.{AreColumnsOf};
-ghost use Rattle.build_leader.specs.Blocks.{IsWhole, block_count, most_blocks};
+ghost use Rattle.build_leader.specs.Blocks.{IsHeapFile, most_blocks};
 ghost use Rattle.build_leader.specs.Calls.{IsLeadFault, IsPlan};
 ghost use Rattle.build_leader.specs.Gin.{AreEntries, most_records};
 ghost use Rattle.build_leader.specs.Holding.{all_ranges};
@@ -24,7 +25,7 @@ use crate::gin::count_records;
 use crate::leaf_parts::pack_tapes;
 use crate::plan::Plan;
 use crate::posting_parts::pack_entries;
-use crate::ranges::RangeParts;
+use brin_summary::RangeParts;
 use opclass::Method;
 use pg_bytes::{IndexImage, PAGE};
 use shared_tape::Tapes;
@@ -64,7 +65,7 @@ pub(crate) fn pack_taken<Rt: Threads + Sync>(
 
 // How many blocks a heap has.
 fn count_blocks(heap: &[u8]) -> u32
-    requires { IsWhole heap.now }
+    requires { IsHeapFile heap.now }
     ensures blocks { result ≡ block_count heap.now }
     ensures bytes { All (λ byte. byte < 256) heap.now }
 {

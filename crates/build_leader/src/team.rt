@@ -11,13 +11,13 @@ ghost use Rattle.build_leader.specs.Teams.{AreFreshSeats, HandsOver, IsAlone, Is
 use crate::fault::LeadFault;
 use crate::gate::Gate;
 use crate::plan::Plan;
-use crate::ranges::RangeParts;
 use crate::row_reader::RowReader;
 use crate::row_slot::RowSlot;
 use crate::scanned::Scanned;
 use crate::sink::Sink;
 use crate::worker::{BlockFault, Share, scan_share};
 use block_claim::{Scan, ScanSeat};
+use brin_summary::RangeParts;
 use pg_bytes::Items;
 use shared_tape::Tapes;
 use std::alloc::{AllocError, Global};

@@ -3,8 +3,8 @@
 
 ghost use Rattle.std.specs.Prelude.{◌≡◌, ◌+◌, ◌-◌, ◌^◌, ◌≤◌, ◌<◌, [], ◌∷◌, IfOk, OnOk, true, false};
 ghost use Rattle.std.specs.List.{range_with_len};
+ghost use Rattle.pg_bytes.specs.Blocks.{block_at, block_count};
 ghost use Rattle.block_claim.specs.Calls.{is_done};
-ghost use Rattle.build_leader.specs.Blocks.{block_count, page_of};
 ghost use Rattle.build_leader.specs.Scanning.{IsBetweenClaims, IsOneClaimMore, IsSameWorker, IsScanOf, IsWorker, TakesBlocks, begun_with};
 
 use crate::block::{BlockError, scan_block};
@@ -179,12 +179,12 @@ fn scan_one(
 }
 
 // The page of a block.
-#[tactic(auto, unfolding(crate::specs::Blocks::page_of))]
+#[tactic(auto, unfolding(pg_bytes::specs::Blocks::block_at))]
 fn page_at(heap: &[u8], block: u32) -> Page<'_>
     requires { block < block_count heap.now }
-    ensures { result ≡ page_of heap.now block }
+    ensures { result ≡ block_at block heap.now }
 {
-    let start = block as usize * PAGE;
+    let start = PAGE * block as usize;
     match Page::of(&heap[start..start + PAGE]) {
         Some(page) => page,
         None => unreachable!(),

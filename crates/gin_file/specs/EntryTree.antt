@@ -1,10 +1,9 @@
 -- The entry tree (ginentrypage.c): a tree of pages in levels whose leaves have a tuple for each entry, and its reading.
-use Rattle.std.specs.Prelude.{ℕ, ◌+◌, ◌-◌, ◌/◌, nat_eq, if◌then◌else◌, List, [], ◌∷◌, length, map, take, drop}
-use Rattle.std.specs.List.{range_with_len}
+use Rattle.std.specs.Prelude.{ℕ, ◌+◌, ◌-◌, nat_eq, if◌then◌else◌, List, [], ◌∷◌, length, map}
 use Rattle.pg_bytes.specs.ItemPage.{item_page}
-use Rattle.pg_bytes.specs.Numbers.{number_at}
-use Rattle.pg_bytes.specs.PageLayout.{header_size, line_place, line_pointer_size, lower_of}
-use Rattle.pg_bytes.specs.Pointers.{line_pointer_of, row_pointer_at}
+use Rattle.pg_bytes.specs.Lines.{items_on}
+use Rattle.pg_bytes.specs.PageLayout.{header_size, line_pointer_size}
+use Rattle.pg_bytes.specs.Pointers.{row_pointer_at}
 use Rattle.opclass.specs.declared.types.ColType.{ColType}
 use Rattle.gin_entry.specs.declared.entry.Entry.{Entry}
 use Rattle.posting_tree.specs.Levels.{Downlink, Kind}
@@ -64,19 +63,6 @@ inner_kind kind = record {
 
 -- ---- what is read of a page
 
--- how many line pointers a page has (PageGetMaxOffsetNumber of bufpage.h)
-abbrev pub lines_of : List ℕ → ℕ
-lines_of page = (lower_of page - header_size) / line_pointer_size
-
--- the tuple to which a line pointer leads (PageGetItem)
-abbrev pub tuple_at : List ℕ → ℕ → List ℕ
-tuple_at page line =
-    let pointer = line_pointer_of (number_at 4 page (line_place line)) in take pointer.length (drop pointer.offset page)
-
--- the tuples of a page in the order of their line pointers
-unfoldable pub tuples_on : List ℕ → List (List ℕ)
-tuples_on page = map (tuple_at page) (range_with_len 1 (lines_of page))
-
 -- what is seen of tuples above the leaves: the page to which the first one leads
 abbrev pub first_child : List (List ℕ) → Sight (List (List ℕ))
 first_child [] = SeenOther
@@ -86,5 +72,5 @@ first_child (first ∷ others) = SeenInner (row_pointer_at first 0).block
 unfoldable pub entry_sight : List ℕ → Sight (List (List ℕ))
 entry_sight page =
     if nat_eq (flags_of page) leaf_flag
-    then SeenLeaf (right_of page) (tuples_on page)
-    else (if nat_eq (flags_of page) inner_flags then first_child (tuples_on page) else SeenOther)
+    then SeenLeaf (right_of page) (items_on page)
+    else (if nat_eq (flags_of page) inner_flags then first_child (items_on page) else SeenOther)

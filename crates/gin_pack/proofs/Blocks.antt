@@ -4,10 +4,11 @@ use Rattle.std.specs.List.{AllByRecursion, flat_map}
 use Rattle.std.proofs.lemmas.List.{append_assoc, append-nil, drop-append-le, drop-drop, drop_at, length-drop, length-take-le, take-append-le, take_at}
 use Rattle.std.proofs.lemmas.List.Concat.{flat_map-cons}
 use Rattle.std.proofs.Math.Seq.{drop-append-add}
+use Rattle.pg_bytes.specs.Blocks.{block_at}
 use Rattle.pg_bytes.specs.Image.{filled_up, placed}
 use Rattle.pg_bytes.specs.Places.{written, zeros}
 use Rattle.posting_tree.specs.Levels.{Node}
-use Rattle.posting_tree.specs.Reading.{StandIn, block_at}
+use Rattle.posting_tree.specs.Reading.{StandIn}
 
 -- ---- one block
 
@@ -15,14 +16,14 @@ use Rattle.posting_tree.specs.Reading.{StandIn, block_at}
 pub block-behind : (block : ℕ) (old page rest : List ℕ) → length old ≡ block * 8192 → length page ≡ 8192 → block_at block (old ++ (page ++ rest)) ≡ page
 unfolding block_at
 block-behind block old page rest here size =
-    ap (take 8192) (drop_at old (page ++ rest) (block * 8192) here) ∙ take_at page rest 8192 size
+    ap (take 8192) (drop_at old (page ++ rest) (8192 * block) (omega (arith, here))) ∙ take_at page rest 8192 size
 
 -- a block stays when more come
 pub block-kept : (block : ℕ) (old more : List ℕ) → suc block * 8192 ≤ length old → block_at block (old ++ more) ≡ block_at block old
 unfolding block_at
 block-kept block old more inside =
-    ap (take 8192) (drop-append-le (block * 8192) old more (omega arith))
-    ∙ take-append-le 8192 (drop (block * 8192) old) more (let l = length-drop (block * 8192) old in omega arith)
+    ap (take 8192) (drop-append-le (8192 * block) old more (omega arith))
+    ∙ take-append-le 8192 (drop (8192 * block) old) more (let l = length-drop (8192 * block) old in omega arith)
 
 -- ---- nodes
 
@@ -115,10 +116,10 @@ pub behind-meta-kept : (page old : List ℕ) (block : ℕ) → length page ≡ 8
 unfolding block_at
 behind-meta-kept page old zero size from = absurd (omega arith)
 behind-meta-kept page old (suc block) size from =
-    ap (λ (n : ℕ). take 8192 (drop n (page ++ drop 8192 old))) (let e : suc block * 8192 ≡ length page + block * 8192 = omega arith in e)
-    ∙ ap (take 8192) (drop-append-add page (drop 8192 old) (block * 8192)
-    ∙ drop-drop (block * 8192) 8192 old
-    ∙ ap (λ (n : ℕ). drop n old) (let e : 8192 + block * 8192 ≡ suc block * 8192 = omega arith in e))
+    ap (λ (n : ℕ). take 8192 (drop n (page ++ drop 8192 old))) (let e : 8192 * suc block ≡ length page + 8192 * block = omega arith in e)
+    ∙ ap (take 8192) (drop-append-add page (drop 8192 old) (8192 * block)
+    ∙ drop-drop (8192 * block) 8192 old
+    ∙ ap (λ (n : ℕ). drop n old) (let e : 8192 + 8192 * block ≡ 8192 * suc block = omega arith in e))
 
 -- ---- the root's block, which was left for it
 
@@ -155,9 +156,9 @@ others-kept page old (suc (suc block)) size begun other inside =
     let t = length-take-le 8192 old (omega arith) in
     let front : List ℕ = take 8192 old ++ page in
     let both = length-append (take 8192 old) page in
-    let place : suc (suc block) * 8192 ≡ length front + block * 8192 = omega arith in
-    ap (λ (l : List ℕ). take 8192 (drop (suc (suc block) * 8192) l)) (sym (append_assoc (take 8192 old) page (drop 16384 old)))
+    let place : 8192 * suc (suc block) ≡ length front + 8192 * block = omega arith in
+    ap (λ (l : List ℕ). take 8192 (drop (8192 * suc (suc block)) l)) (sym (append_assoc (take 8192 old) page (drop 16384 old)))
     ∙ ap (λ (n : ℕ). take 8192 (drop n (front ++ drop 16384 old))) place
-    ∙ ap (take 8192) (drop-append-add front (drop 16384 old) (block * 8192)
-    ∙ drop-drop (block * 8192) 16384 old
-    ∙ ap (λ (n : ℕ). drop n old) (let e : 16384 + block * 8192 ≡ suc (suc block) * 8192 = omega arith in e))
+    ∙ ap (take 8192) (drop-append-add front (drop 16384 old) (8192 * block)
+    ∙ drop-drop (8192 * block) 16384 old
+    ∙ ap (λ (n : ℕ). drop n old) (let e : 16384 + 8192 * block ≡ 8192 * suc (suc block) = omega arith in e))

@@ -6,6 +6,7 @@ use Rattle.std.specs.List.Sorted.{IsStrictlySortedBy}
 use Rattle.std.proofs.lemmas.List.{map-append}
 use Rattle.std.proofs.lemmas.List.Concat.{flat_map-cons}
 use Rattle.std.proofs.lemmas.List.Sums.{sum_by-cons}
+use Rattle.pg_bytes.specs.Blocks.{block_count}
 use Rattle.opclass.specs.declared.types.ColType.{ColType}
 use Rattle.gin_entry.specs.declared.entry.Entry.{Entry}
 use Rattle.gin_entry.specs.EntryMap.{IsPostingList, Posting}
@@ -13,7 +14,6 @@ use Rattle.gin_entry.specs.EntryOrder.{entry_cmp}
 use Rattle.gin_entry.specs.EntrySize.{entry_size}
 use Rattle.posting_tree.specs.Laws.{IsSeenAbove}
 use Rattle.posting_tree.specs.Levels.{AreAbove, AreLevel, Downlink, IsEmptyRoot, IsPage, Kind, Node, Page, Tree, items_of, no_link, nodes_of_level, said, to_say}
-use Rattle.posting_tree.specs.Reading.{blocks_of}
 use Rattle.posting_tree.specs.Reading.Sight.{SeenLeaf}
 use Rattle.posting_tree.specs.Special.{leaf_flag}
 use Rattle.posting_tree.proofs.PostingReading.{all-pages, standing-is-read}
@@ -33,12 +33,12 @@ use Rattle.gin_pack.proofs.Rising.{length-nodes}
 -- ---- what each tuple tells
 
 -- an entry that is stored tells its posting
-tells : (kind : ColType) (file : List ℕ) (stored : Stored) → IsListed kind stored.posting → IsStored kind file stored → pages_apart stored ≤ blocks_of file
-    → blocks_of file ≤ no_link → Tells kind file (tuple_of kind stored) stored.posting
+tells : (kind : ColType) (file : List ℕ) (stored : Stored) → IsListed kind stored.posting → IsStored kind file stored → pages_apart stored ≤ block_count file
+    → block_count file ≤ no_link → Tells kind file (tuple_of kind stored) stored.posting
 tells kind file stored listed is few linked = by stored.posting stored.apart listed is few
   where
     by : (posting : Posting) (apart : Option ListTree) → IsListed kind posting → IsStored kind file (record { posting = posting; apart = apart })
-        → pages_apart (record { posting = posting; apart = apart }) ≤ blocks_of file
+        → pages_apart (record { posting = posting; apart = apart }) ≤ block_count file
         → Tells kind file (tuple_of kind (record { posting = posting; apart = apart })) posting
     by posting None listed is few = inl refl
     by posting (Some apart) listed is few =
@@ -49,7 +49,7 @@ tells kind file stored listed is few linked = by stored.posting stored.apart lis
         )
 
 all-tell : (kind : ColType) (file : List ℕ) (stored : List Stored) → AllByRecursion (λ each. IsListed kind each.posting) stored
-    → AllByRecursion (IsStored kind file) stored → sum_by pages_apart stored ≤ blocks_of file → blocks_of file ≤ no_link
+    → AllByRecursion (IsStored kind file) stored → sum_by pages_apart stored ≤ block_count file → block_count file ≤ no_link
     → AllZip (Tells kind file) (map (tuple_of kind) stored) (map (λ each. each.posting) stored)
 all-tell kind file [] listed are few linked = tt
 all-tell kind file (each ∷ stored) listed are few linked =
@@ -267,7 +267,7 @@ file-is-read kind file postings has listed ascending lists =
     let levels = levels-few kind (map (to_say leaf_kind) tree.leaves) tree.above has.levels.above in
     let some = leaves.some in
     let blocks = has.blocks in
-    let total : blocks_of file ≡ 1 + (length (leaf_nodes ++ above_nodes) + sum_by pages_apart has.stored) = omega arith in
+    let total : block_count file ≡ 1 + (length (leaf_nodes ++ above_nodes) + sum_by pages_apart has.stored) = omega arith in
     let read = trees-are-read entry_sight tuples_of leaf_kind (inner_kind kind) file tree 1 has.levels has.root
     (record {
       stand = has.stands;

@@ -3,6 +3,7 @@ use Rattle.std.proofs.Common.{◌≡◌, ℕ, ◌+◌, ◌-◌, ◌*◌, ◌^◌
 use Rattle.std.specs.Prelude.{◌⊎◌, Option, Some, None, map}
 use Rattle.std.specs.List.{AllByRecursion, flat_map, sum_by}
 use Rattle.std.proofs.lemmas.List.{length-map}
+use Rattle.pg_bytes.specs.Blocks.{block_at}
 use Rattle.pg_bytes.specs.Image.{placed}
 use Rattle.pg_bytes.specs.PageLayout.{page_size}
 use Rattle.opclass.specs.declared.types.ColType.{ColType}
@@ -10,7 +11,7 @@ use Rattle.gin_entry.specs.declared.entry.Entry.{Entry}
 use Rattle.gin_entry.specs.EntryMap.{Posting}
 use Rattle.posting_tree.specs.Levels.{AreLevel, IsEmptyRoot, Node, Page, Tree, no_link, nodes_of, nodes_of_level}
 use Rattle.posting_tree.specs.PostingTree.{inner_kind as list_inner_kind, leaf_kind as list_leaf_kind}
-use Rattle.posting_tree.specs.Reading.{StandIn, block_at}
+use Rattle.posting_tree.specs.Reading.{StandIn}
 use Rattle.posting_tree.specs.Special.{leaf_flag}
 use Rattle.gin_file.specs.EntryTree.{Item, inner_kind, leaf_kind}
 use Rattle.gin_pack.specs.File.{HasPostings, IsBlockOf, IsStored, ListTree, Stored, item_of, pages_apart}

@@ -7,6 +7,7 @@ use Rattle.std.proofs.lemmas.List.Sums.{sum_by-cons}
 use Rattle.std.proofs.lemmas.List.{append-nil}
 use Rattle.pg_bytes.proofs.ItemPage.{length-page_header}
 use Rattle.pg_bytes.proofs.Writes.{length-number_bytes, length-zeros}
+use Rattle.pg_bytes.specs.Blocks.{block_count}
 use Rattle.pg_bytes.specs.PageLayout.{page_header, page_size}
 use Rattle.pg_bytes.specs.Numbers.{number_bytes}
 use Rattle.pg_bytes.specs.Places.{zeros}
@@ -15,7 +16,7 @@ use Rattle.pg_bytes.specs.declared.row_ptr.RowPtr.{RowPtr}
 use Rattle.btree_item.proofs.Sizes.{length-row_pointer}
 use Rattle.posting_tree.specs.Levels.{AreAbove, AreLevel, Downlink, IsTree, Kind, Node, Page, Tree, fill, nodes_linked, nodes_of, nodes_of_level, no_link, to_say}
 use Rattle.posting_tree.specs.PostingTree.{data_page, inner_kind, leaf_kind, posting_item}
-use Rattle.posting_tree.specs.Reading.{StandIn, blocks_of}
+use Rattle.posting_tree.specs.Reading.{StandIn}
 use Rattle.posting_tree.specs.Segments.{deltas_behind, groups, number_of, segment, segment_from, varbyte}
 use Rattle.posting_tree.specs.Special.{special_space}
 use Rattle.gin_pack.specs.File.{IsBlockOf}
@@ -112,9 +113,9 @@ pub record Stands (old new : List ℕ) (nodes : List Node) : Type 0 where
   pub longer : length (bytes_of nodes) ≡ length nodes * page_size
 
 pub added-stands : (old new : List ℕ) (nodes : List Node) → length old % page_size ≡ 0 → 2 * page_size ≤ length old → AreSized nodes
-    → map (λ node. node.block) nodes ≡ range_with_len (blocks_of old) (length nodes) → new ≡ old ++ bytes_of nodes → Stands old new nodes
+    → map (λ node. node.block) nodes ≡ range_with_len (block_count old) (length nodes) → new ≡ old ++ bytes_of nodes → Stands old new nodes
 added-stands old new nodes whole begun sized blocks bytes =
-    let base : ℕ = blocks_of old in
+    let base : ℕ = block_count old in
     let here : length old ≡ base * 8192 = omega arith in
     let follow = follow-range base nodes blocks in
     let long = length-bytes_of nodes sized in

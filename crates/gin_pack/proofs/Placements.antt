@@ -7,11 +7,11 @@ use Rattle.std.proofs.lemmas.Grind.{flat_map-append}
 use Rattle.std.proofs.Math.Seq.{drop-cons}
 use Rattle.std.proofs.Math.ListN.{get_or, set}
 use Rattle.std.proofs.lemmas.Bool.{le-ltb, ltb-false, ltb-true}
+use Rattle.pg_bytes.specs.Blocks.{block_count}
 use Rattle.pg_bytes.specs.PageLayout.{page_size}
 use Rattle.opclass.specs.declared.types.ColType.{ColType}
 use Rattle.gin_entry.specs.declared.entry.Entry.{Entry}
 use Rattle.posting_tree.specs.Levels.{Downlink, Kind, Node, Page, first_block, no_link, nodes_linked, nodes_of_level, said, to_say}
-use Rattle.posting_tree.specs.Reading.{blocks_of}
 use Rattle.gin_file.specs.EntryTree.{Item, entry_page, inner_flags, item_kind, link_item}
 use Rattle.gin_pack.specs.Pass.Filling.{HasItems, IsFilled, IsLevelOf}
 use Rattle.gin_pack.specs.Pass.Placing.{ArePlaced, CanPlace, LeadsToPage, PlacesPage, leads_to, link_behind, numbered}
@@ -97,14 +97,14 @@ nodes_linked-push kind link (first ∷ pages) page =
 
 -- the link of the last of so many pages, which leads to the next one
 abbrev pub link_at : List ℕ → ℕ → List (List Item) → ℕ
-link_at old at cut = if nat_lt at (length cut) then blocks_of old + at else no_link
+link_at old at cut = if nat_lt at (length cut) then block_count old + at else no_link
 
 -- so many pages of a level have come behind the blocks of a file
 pub record AreUnderWay (kind : ColType) (flags : ℕ) (cut : List (List Item)) (at : ℕ) (old new : List ℕ) (above : Level) : Type 0 where
   pub links : List (Downlink Entry)
-  pub said_are : map said links ≡ map (to_say (item_kind flags)) (numbered (blocks_of old) (take at cut))
+  pub said_are : map said links ≡ map (to_say (item_kind flags)) (numbered (block_count old) (take at cut))
   pub level : IsLevelOf kind inner_flags (map (link_item kind) links) above
-  pub bytes : new ≡ old ++ flat_map (λ node. node.bytes) (nodes_linked (item_kind flags) (link_at old at cut) (numbered (blocks_of old) (take at cut)))
+  pub bytes : new ≡ old ++ flat_map (λ node. node.bytes) (nodes_linked (item_kind flags) (link_at old at cut) (numbered (block_count old) (take at cut)))
   pub grown : length new ≡ length old + at * page_size
 
 pub none-placed : (kind : ColType) (flags : ℕ) (cut : List (List Item)) (file : List ℕ) (above : Level) → IsLevelOf kind inner_flags [] above
@@ -133,7 +133,7 @@ link-step block at count inside =
 -- one page more
 pub page-more : (kind : ColType) (flags : ℕ) (cut : List (List Item)) (pages : List FullPage) (at : ℕ) (page : FullPage) (rest : List FullPage)
     (old now new : List ℕ) (above after : Level) (end : ℕ)
-    → AllZip (HasSome kind flags) cut pages → drop at pages ≡ page ∷ rest → length old % page_size ≡ 0 → end ≡ blocks_of old + length cut
+    → AllZip (HasSome kind flags) cut pages → drop at pages ≡ page ∷ rest → length old % page_size ≡ 0 → end ≡ block_count old + length cut
     → PlacesPage now new page end → LeadsToPage now page above after
     → AreUnderWay kind flags cut at old now above → AreUnderWay kind flags cut (suc at) old new after
 page-more kind flags cut pages at page rest old now new above after end have here whole ends places leads way =
@@ -143,34 +143,34 @@ page-more kind flags cut pages at page rest old now new above after end have her
     let inside = met.inside in
     let last = last-entry None items met.meets.1 in
     let grown = way.grown in
-    let block : ℕ = blocks_of old + at in
-    let here_is : blocks_of now ≡ block = omega arith in
+    let block : ℕ = block_count old + at in
+    let here_is : block_count now ≡ block = omega arith in
     let before : length (take at cut) ≡ at = length-take-le at cut (omega arith) in
     let link : Downlink Entry = record { child = block; key = last.0 } in
     let node : Page Item = record { block = block; items = items } in
     let right : ℕ = link_at old (suc at) cut in
     let image : List ℕ = entry_page flags right (tuples_of items) in
-    let numbers : numbered (blocks_of old) (take (suc at) cut) ≡ numbered (blocks_of old) (take at cut) ++ node ∷ [] =
-    ap (numbered (blocks_of old)) met.front
-    ∙ numbered-push (blocks_of old) (take at cut) items
-    ∙ ap (λ (n : ℕ). numbered (blocks_of old) (take at cut) ++ record { block = blocks_of old + n; items = items } ∷ []) before in
+    let numbers : numbered (block_count old) (take (suc at) cut) ≡ numbered (block_count old) (take at cut) ++ node ∷ [] =
+    ap (numbered (block_count old)) met.front
+    ∙ numbered-push (block_count old) (take at cut) items
+    ∙ ap (λ (n : ℕ). numbered (block_count old) (take at cut) ++ record { block = block_count old + n; items = items } ∷ []) before in
     let bytes_of : List Node → List ℕ = flat_map (λ node. node.bytes) in
-    let linked : nodes_linked (item_kind flags) right (numbered (blocks_of old) (take (suc at) cut))
-    ≡ nodes_linked (item_kind flags) block (numbered (blocks_of old) (take at cut)) ++ record { block = block; bytes = image } ∷ [] =
-    ap (nodes_linked (item_kind flags) right) numbers ∙ nodes_linked-push (item_kind flags) right (numbered (blocks_of old) (take at cut)) node in
+    let linked : nodes_linked (item_kind flags) right (numbered (block_count old) (take (suc at) cut))
+    ≡ nodes_linked (item_kind flags) block (numbered (block_count old) (take at cut)) ++ record { block = block; bytes = image } ∷ [] =
+    ap (nodes_linked (item_kind flags) right) numbers ∙ nodes_linked-push (item_kind flags) right (numbered (block_count old) (take at cut)) node in
     let to_here : link_at old at cut ≡ block = ap (λ (b : Bool). cond b block no_link) (lt-ltb at (length cut) inside) in
     let page_bytes : new ≡ now ++ image =
     places kind flags items has
     ∙ ap (λ (b : ℕ). now ++ entry_page flags (link_behind b end) (tuples_of items)) here_is
     ∙ ap (λ (e : ℕ). now ++ entry_page flags (link_behind block e) (tuples_of items)) ends
-    ∙ ap (λ (r : ℕ). now ++ entry_page flags r (tuples_of items)) (link-step (blocks_of old) at (length cut) inside) in
+    ∙ ap (λ (r : ℕ). now ++ entry_page flags r (tuples_of items)) (link-step (block_count old) at (length cut) inside) in
     record {
       links = way.links ++ link ∷ [];
       said_are =
           map-append said way.links (link ∷ [])
           ∙ ap (λ l. l ++ (block, Some last.0) ∷ []) way.said_are
-          ∙ ap (λ (g : Option Entry). map (to_say (item_kind flags)) (numbered (blocks_of old) (take at cut)) ++ (block, g) ∷ []) (sym last.1)
-          ∙ sym (map-append (to_say (item_kind flags)) (numbered (blocks_of old) (take at cut)) (node ∷ []))
+          ∙ ap (λ (g : Option Entry). map (to_say (item_kind flags)) (numbered (block_count old) (take at cut)) ++ (block, g) ∷ []) (sym last.1)
+          ∙ sym (map-append (to_say (item_kind flags)) (numbered (block_count old) (take at cut)) (node ∷ []))
           ∙ ap (map (to_say (item_kind flags))) (sym numbers);
       level =
           subst (λ (l : List Item). IsLevelOf kind inner_flags l after)
@@ -179,12 +179,12 @@ page-more kind flags cut pages at page rest old now new above after end have her
           (leads kind flags items last.0 (map (link_item kind) way.links) has last.1 way.level.put);
       bytes =
           page_bytes
-          ∙ ap (λ (l : List ℕ). l ++ image) (way.bytes ∙ ap (λ (r : ℕ). old ++ bytes_of (nodes_linked (item_kind flags) r (numbered (blocks_of old) (take at cut)))) to_here)
+          ∙ ap (λ (l : List ℕ). l ++ image) (way.bytes ∙ ap (λ (r : ℕ). old ++ bytes_of (nodes_linked (item_kind flags) r (numbered (block_count old) (take at cut)))) to_here)
           ∙ append_assoc old _ image
           ∙ ap (λ (l : List ℕ). old ++ l)
           (sym (ap bytes_of linked
-          ∙ flat_map-append (λ (n : Node). n.bytes) (nodes_linked (item_kind flags) block (numbered (blocks_of old) (take at cut))) (record { block = block; bytes = image } ∷ [])
-          ∙ ap (λ (l : List ℕ). bytes_of (nodes_linked (item_kind flags) block (numbered (blocks_of old) (take at cut))) ++ l) (append-nil image)));
+          ∙ flat_map-append (λ (n : Node). n.bytes) (nodes_linked (item_kind flags) block (numbered (block_count old) (take at cut))) (record { block = block; bytes = image } ∷ [])
+          ∙ ap (λ (l : List ℕ). bytes_of (nodes_linked (item_kind flags) block (numbered (block_count old) (take at cut))) ++ l) (append-nil image)));
       grown =
           let size = length-entry_page flags right (tuples_of items) (have_room kind flags items page has) in
           let both = length-append now image in
@@ -215,16 +215,16 @@ pub all-placed : (kind : ColType) (flags : ℕ) (cut : List (List Item)) (at : �
     → length old % page_size ≡ 0 → length cut ≤ at → AreUnderWay kind flags cut at old new above → ArePlaced kind flags cut old new above
 all-placed kind flags cut at old new above whole_blocks all way =
     let whole : take at cut ≡ cut = take_all at cut all in
-    let none : link_at old at cut ≡ no_link = ap (λ (b : Bool). cond b (blocks_of old + at) no_link) (le-ltb at (length cut) all) in
+    let none : link_at old at cut ≡ no_link = ap (λ (b : Bool). cond b (block_count old + at) no_link) (le-ltb at (length cut) all) in
     record {
       whole = whole_blocks;
       links = way.links;
-      said_are = way.said_are ∙ ap (λ c. map (to_say (item_kind flags)) (numbered (blocks_of old) c)) whole;
+      said_are = way.said_are ∙ ap (λ c. map (to_say (item_kind flags)) (numbered (block_count old) c)) whole;
       level = way.level;
       bytes =
           way.bytes
-          ∙ ap (λ (r : ℕ). old ++ flat_map (λ node. node.bytes) (nodes_linked (item_kind flags) r (numbered (blocks_of old) (take at cut)))) none
-          ∙ ap (λ c. old ++ flat_map (λ node. node.bytes) (nodes_of_level (item_kind flags) (numbered (blocks_of old) c))) whole;
+          ∙ ap (λ (r : ℕ). old ++ flat_map (λ node. node.bytes) (nodes_linked (item_kind flags) r (numbered (block_count old) (take at cut)))) none
+          ∙ ap (λ c. old ++ flat_map (λ node. node.bytes) (nodes_of_level (item_kind flags) (numbered (block_count old) c))) whole;
     }
 
 -- the page at a place of those that are left

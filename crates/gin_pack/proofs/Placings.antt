@@ -2,12 +2,11 @@
 use Rattle.std.proofs.Common.{◌≡◌, ℕ, ◌+◌, ◌-◌, ◌*◌, ◌%◌, ◌<◌, List, [], ◌∷◌, ◌++◌, length, sym, ap, subst, ◌∙◌, arith, lt-ltb}
 use Rattle.std.specs.Prelude.{Bool, cond}
 use Rattle.std.proofs.lemmas.List.{append_assoc}
+use Rattle.pg_bytes.specs.Blocks.{block_count}
 use Rattle.pg_bytes.specs.Numbers.{number_bytes}
 use Rattle.pg_bytes.specs.Places.{written, zeros}
 use Rattle.pg_bytes.specs.Pointers.{row_pointer_bytes}
-use Rattle.pg_bytes.specs.Image.{placed}
 use Rattle.pg_bytes.specs.declared.row_ptr.RowPtr.{RowPtr}
-use Rattle.pg_bytes.proofs.Growth.{placed-end}
 use Rattle.pg_bytes.proofs.Writes.{length-written, written-first}
 use Rattle.btree_item.proofs.Sizes.{length-row_pointer}
 use Rattle.btree_item.specs.Tuple.{bitmap_of, data_end, index_tuple, info_of, size_of}
@@ -18,7 +17,6 @@ use Rattle.opclass.specs.Types.{facts_of}
 use Rattle.gin_entry.specs.declared.entry.Entry.{Entry}
 use Rattle.gin_entry.specs.EntrySize.{entry_size, key_end, key_kinds, list_place}
 use Rattle.posting_tree.specs.Levels.{no_link}
-use Rattle.posting_tree.specs.Reading.{blocks_of}
 use Rattle.gin_file.specs.EntryTree.{Item, entry_page, inner_flags}
 use Rattle.gin_file.specs.EntryTuple.{category_byte, inner_tuple, key_part, leading_tuple}
 use Rattle.gin_pack.specs.Pass.Filling.{HasItems, IsLevelOf, NamesEntry, PutsItem, Takes}
@@ -83,15 +81,14 @@ have_room kind flags items page has = let taken = fill-is flags items has.tuples
 
 -- a page placed behind the others
 pub page-placed : (block end : ℕ) (old new linked : List ℕ) (full : FullPage)
-    → block * 8192 ≡ length old → new ≡ placed block linked old
+    → block * 8192 ≡ length old → new ≡ old ++ linked
     → ((flags : ℕ) → (tuples : List (List ℕ)) → HaveRoom tuples → full.page ≡ entry_page flags no_link tuples
     → linked ≡ entry_page flags (link_behind block end) tuples)
     → PlacesPage old new full end
 page-placed block end old new linked full here is links =
     λ kind flags items has.
-    let number : block ≡ blocks_of old = omega arith in
+    let number : block ≡ block_count old = omega arith in
     is
-    ∙ placed-end block linked old (sym here)
     ∙ ap (λ (page : List ℕ). old ++ page) (links flags (tuples_of items) (have_room kind flags items full has) has.bytes)
     ∙ ap (λ (b : ℕ). old ++ entry_page flags (link_behind b end) (tuples_of items)) number
 
@@ -101,9 +98,9 @@ pub link-put : (block : ℕ) (file key : List ℕ) (full : FullPage) (old new : 
     → PutsItem old new key key → LeadsToPage file full old new
 link-put block file key full old new here is puts =
     λ kind flags items entry links has greatest_is put.
-    let number : block ≡ blocks_of file = omega arith in
+    let number : block ≡ block_count file = omega arith in
     let names : NamesEntry kind entry full.key.items = has.key entry greatest_is in
-    let tuple : key ≡ inner_tuple kind (record { child = blocks_of file; key = entry }) =
+    let tuple : key ≡ inner_tuple kind (record { child = block_count file; key = entry }) =
     is ∙ led kind entry block full.key.items names ∙ ap (λ (b : ℕ). inner_tuple kind (record { child = b; key = entry })) number in
     subst (λ (t : List ℕ). IsLevelOf kind inner_flags (links ++ record { entry = entry; tuple = t } ∷ []) new) tuple
     (puts kind inner_flags links entry put (led-names kind entry block full.key.items key names is))

@@ -7,12 +7,13 @@ use Rattle.std.proofs.lemmas.List.{append-nil, length-map}
 use Rattle.std.proofs.lemmas.List.Sums.{sum_by-cons}
 use Rattle.std.proofs.lemmas.List.Concat.{flat_map-cons}
 use Rattle.std.proofs.lemmas.Grind.{flat_map-append}
+use Rattle.pg_bytes.specs.Blocks.{block_at, block_count}
 use Rattle.pg_bytes.specs.Image.{placed}
 use Rattle.pg_bytes.specs.PageLayout.{page_size}
 use Rattle.opclass.specs.declared.types.ColType.{ColType}
 use Rattle.gin_entry.specs.declared.entry.Entry.{Entry}
 use Rattle.posting_tree.specs.Levels.{AreAbove, AreLevel, Downlink, IsPage, Kind, Node, Page, fill, first_block, items_of, no_link, nodes_linked, nodes_of_level, said, to_say, top_of}
-use Rattle.posting_tree.specs.Reading.{StandIn, block_at, blocks_of}
+use Rattle.posting_tree.specs.Reading.{StandIn}
 use Rattle.gin_file.specs.EntryTree.{Item, entry_page, inner_flags, inner_kind, item_kind, item_size, link_item}
 use Rattle.gin_pack.specs.Pass.Filling.{HasItems, IsFilled, IsLevelOf}
 use Rattle.gin_pack.specs.Pass.Placing.{AreCut, ArePagesOf, ArePlaceable, ArePlaced, HasRisen, IsBehindMeta, Rises, numbered}
@@ -245,8 +246,8 @@ count-links kind flags cut old middle above placed =
     let a = length-map placed.links (link_item kind) in
     let b = length-map placed.links (said {Key = Entry}) in
     let c = ap length placed.said_are in
-    let d = length-map (numbered (blocks_of old) cut) (to_say (item_kind flags)) in
-    let e = length-numbered (blocks_of old) cut in
+    let d = length-map (numbered (block_count old) cut) (to_say (item_kind flags)) in
+    let e = length-numbered (block_count old) cut in
     omega arith
 
 -- ---- a level and those above it
@@ -260,7 +261,7 @@ pub level-risen : (kind : ColType) (flags : ℕ) (full : List (List Item)) (last
     → HasRisen kind flags (full ++ last ∷ []) old new
 level-risen kind flags full last pages packed old middle new above up top begun whole many cut placed above_cut items risen =
     let all : List (List Item) = full ++ last ∷ [] in
-    let base : ℕ = blocks_of old in
+    let base : ℕ = block_count old in
     let here : length old ≡ base * 8192 = omega arith in
     let level : List (Page Item) = numbered base all in
     let nodes : List Node = nodes_of_level (item_kind flags) level in
@@ -371,7 +372,7 @@ goes-on kind flags full last pages packed old middle above begun other cut place
     let items = ap length made.all in
     let fewer = fewer-pages kind inner_flags made.full made.last packed made.cut (omega arith) in
     let longer = ap length placed.bytes in
-    let sum = length-append old (flat_map (λ (n : Node). n.bytes) (nodes_of_level (item_kind flags) (numbered (blocks_of old) (full ++ last ∷ [])))) in
+    let sum = length-append old (flat_map (λ (n : Node). n.bytes) (nodes_of_level (item_kind flags) (numbered (block_count old) (full ++ last ∷ [])))) in
     record {
       fewer = omega arith;
       placeable = record {

@@ -5,12 +5,8 @@ use Rattle.std.specs.Prelude.{Option, Some, None, map}
 use Rattle.std.specs.List.{AllByRecursion}
 use Rattle.std.proofs.lemmas.List.{append-nil, map-append}
 use Rattle.std.proofs.lemmas.List.Sums.{sum_by-append}
-use Rattle.pg_bytes.proofs.Growth.{placed-end}
-use Rattle.pg_bytes.proofs.ItemPage.{length-page_header}
-use Rattle.pg_bytes.proofs.Writes.{length-zeros}
-use Rattle.pg_bytes.specs.Image.{placed}
-use Rattle.pg_bytes.specs.PageLayout.{empty_page, page_header, page_size}
-use Rattle.pg_bytes.specs.Places.{zeros}
+use Rattle.pg_bytes.specs.Blocks.{block_at}
+use Rattle.pg_bytes.specs.PageLayout.{page_size}
 use Rattle.pg_bytes.specs.declared.row_ptr.RowPtr.{RowPtr}
 use Rattle.opclass.specs.declared.types.ColType.{ColType}
 use Rattle.gin_entry.specs.declared.entry.Entry.{Entry}
@@ -18,7 +14,6 @@ use Rattle.gin_entry.specs.EntryMap.{Posting}
 use Rattle.gin_entry.specs.EntrySize.{entry_size}
 use Rattle.posting_tree.specs.Levels.{Node, nodes_of}
 use Rattle.posting_tree.specs.PostingTree.{AddsTree, inner_kind as list_inner_kind, leaf_kind as list_leaf_kind}
-use Rattle.posting_tree.specs.Reading.{block_at}
 use Rattle.posting_tree.specs.Special.{leaf_flag}
 use Rattle.gin_file.specs.EntryTree.{Item}
 use Rattle.gin_file.specs.EntryTuple.{leading_tuple, list_size, list_tuple, most_size, tree_tuple, IsTuple}
@@ -34,24 +29,6 @@ use Rattle.gin_file.proofs.EntryTuples.{leading-is_tuple, list-is_tuple}
 use Rattle.gin_file.proofs.SegmentFronts.{segment-least}
 use Rattle.gin_pack.proofs.ListTrees.{added-stands, sized-tree, within-blocks}
 use Rattle.gin_pack.proofs.Places.{all-push}
-
--- ---- nothing yet
-
-length-empty_page : length (empty_page 8) ≡ 8192
-unfolding empty_page
-length-empty_page =
-    let h = length-page_header 24 8184 8184 in
-    let z = length-zeros 8168 in
-    length-append (page_header 24 8184 8184) (zeros 8168) ∙ omega arith
-
--- the blocks that are left for the meta page and the root
-pub length-begun : (blank one two : List ℕ) → blank ≡ empty_page 8 → one ≡ placed 0 blank [] → two ≡ placed 1 blank one → length two ≡ 16384
-length-begun blank one two is first second =
-    let size : length blank ≡ 8192 = ap length is ∙ length-empty_page in
-    let a : one ≡ blank = first ∙ placed-end 0 blank [] refl in
-    let b : two ≡ blank ++ blank =
-    second ∙ ap (placed 1 blank) a ∙ placed-end 1 blank blank (omega arith) in
-    ap length b ∙ length-append blank blank ∙ omega arith
 
 -- ---- what is stored stays stored
 

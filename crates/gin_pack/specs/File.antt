@@ -2,6 +2,7 @@
 -- the posting trees of entries with long lists.
 use Rattle.std.specs.Prelude.{◌≡◌, ℕ, ◌+◌, ◌*◌, ◌<◌, ◌≤◌, Option, Some, None, List, length, map, Any}
 use Rattle.std.specs.List.{AllByRecursion, sum_by}
+use Rattle.pg_bytes.specs.Blocks.{block_at, block_count}
 use Rattle.pg_bytes.specs.PageLayout.{page_size}
 use Rattle.pg_bytes.specs.declared.row_ptr.RowPtr.{RowPtr}
 use Rattle.opclass.specs.declared.types.ColType.{ColType}
@@ -11,7 +12,7 @@ use Rattle.gin_entry.specs.EntryOrder.{columns_of}
 use Rattle.shared_tape.specs.declared.stored.Record.{Record}
 use Rattle.posting_tree.specs.Levels.{IsRootOf, IsTree, Node, Tree, items_of, no_link, nodes_of}
 use Rattle.posting_tree.specs.PostingTree.{IsPostingTree, inner_kind as list_inner_kind, leaf_kind as list_leaf_kind}
-use Rattle.posting_tree.specs.Reading.{StandIn, block_at, blocks_of}
+use Rattle.posting_tree.specs.Reading.{StandIn}
 use Rattle.gin_file.specs.EntryTree.{Item, inner_kind, leaf_kind}
 use Rattle.gin_file.specs.EntryTuple.{list_size, list_tuple, most_size, tree_tuple}
 use Rattle.gin_file.specs.Meta.{meta_page}
@@ -54,7 +55,7 @@ pages_apart stored = elim stored.apart [
 
 -- a page has a block of a file
 abbrev pub IsBlockOf : List ℕ → Node → Type 0
-IsBlockOf file node = node.block < blocks_of file
+IsBlockOf file node = node.block < block_count file
 
 -- A posting tree stands in a file, and there had to be one: with the list the entry's tuple would be too large.
 pub record StandsApart (kind : ColType) (file : List ℕ) (posting : Posting) (apart : ListTree) : Type 0 where
@@ -90,7 +91,7 @@ pub record HasPostings (kind : ColType) (file : List ℕ) (postings : List Posti
     entries = length stored;
   })
   pub blocks : length file ≡ (1 + (length (nodes_of leaf_kind (inner_kind kind) tree) + sum_by pages_apart stored)) * page_size
-  pub numbered : blocks_of file ≤ no_link
+  pub numbered : block_count file ≤ no_link
 
 -- The file of sorted entries: it is read as their map, and built as a GIN index is.
 pub record IsGinFile (kind : ColType) (records : List Record) (file : List ℕ) : Type 0 where

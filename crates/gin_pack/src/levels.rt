@@ -75,7 +75,7 @@ fn place_page(
         return Err(AllocError);
     }
     link(&mut full.page, block, end);
-    image.place(block, &full.page)?;
+    image.append(&full.page)?;
     lead_to(&mut full.key, block);
     above.put(&full.key, &full.key)?;
     Ok(())

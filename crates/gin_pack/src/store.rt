@@ -48,8 +48,8 @@ impl EntryStore {
     {
         let mut image = IndexImage::new(alloc);
         let blank = PageBuf::new(alloc, SPECIAL_BYTES as u16)?;
-        image.place(0, &blank)?;
-        image.place(1, &blank)?;
+        image.append(&blank)?;
+        image.append(&blank)?;
         let leaves = Level::new(alloc, LEAF)?;
         Ok(EntryStore {
             alloc,

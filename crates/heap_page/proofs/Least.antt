@@ -2,8 +2,9 @@
 use Rattle.std.proofs.Common.{◌≡◌, ◌≤◌, ℕ, ◌+◌, List, Bool, true, false, IsSome, IsNone, refl, sym, subst, inl, inr, arith, below_more}
 use Rattle.std.proofs.lemmas.Bool.{cases_lt}
 use Rattle.pg_bytes.specs.LeastFault.{IsNotBehind}
+use Rattle.pg_bytes.specs.Lines.{line_at}
 use Rattle.heap_page.specs.Fault.{HasBadTuple, IsMisplaced, IsUnfit, number_of_page_cause, BreaksRule, IsLeastPageFault}
-use Rattle.heap_page.specs.Line.{IsNormal, IsNew, line_at}
+use Rattle.heap_page.specs.Line.{IsNormal, IsNew}
 use Rattle.heap_page.specs.Tuple.{header_of}
 use Rattle.heap_page.specs.Visibility.{state_of}
 use Rattle.pg_bytes.specs.declared.line_ptr.LinePtr.{LinePtr}

@@ -1,8 +1,9 @@
 -- How the map of units grows by an item.
 use Rattle.std.proofs.Common.{◌≡◌, ◌⊎◌, ◌↔◌, ℕ, ◌+◌, ◌/◌, ◌%◌, ◌<◌, ◌≤◌, List, Bool, subst, inl, inr, arith, below_more}
+use Rattle.pg_bytes.specs.Lines.{EndsInside, line_at}
 use Rattle.pg_bytes.specs.declared.line_ptr.LinePtr.{LinePtr}
 use Rattle.heap_page.specs.Fault.{IsMisplaced}
-use Rattle.heap_page.specs.Line.{IsNormal, line_at, EndsInside}
+use Rattle.heap_page.specs.Line.{IsNormal}
 use Rattle.heap_page.specs.Pass.Units.{HasUnit, IsMapBelow, IsMarked, IsTakenBelow}
 use Rattle.heap_page.proofs.Sound.{place-bounds}
 

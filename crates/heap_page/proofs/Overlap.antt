@@ -1,9 +1,10 @@
 -- Two intervals of bytes that begin at multiples of eight share a byte exactly where they share an eight-byte unit.
 use Rattle.std.proofs.Common.{◌≡◌, ℕ, ◌+◌, ◌*◌, ◌/◌, ◌%◌, ◌<◌, ◌≤◌, List, Bool, true, false, not, IsTrue, MatchBool, ◌↔◌, refl, ap, subst, ◌∙◌, inl, inr, arith}
 use Rattle.std.proofs.lemmas.Bool.{false≢true}
+use Rattle.pg_bytes.specs.Lines.{line_at}
 use Rattle.pg_bytes.specs.declared.line_ptr.LinePtr.{LinePtr}
 use Rattle.heap_page.specs.Fault.{IsMisplaced, IsOutOfPlace, SharesWithLesser}
-use Rattle.heap_page.specs.Line.{line_at, HasByte}
+use Rattle.heap_page.specs.Line.{HasByte}
 use Rattle.heap_page.specs.Pass.Units.{HasUnit, IsMapBelow, IsMarked}
 
 -- the unit of a byte

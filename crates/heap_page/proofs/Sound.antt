@@ -1,10 +1,11 @@
 -- What readers of a page without a fault may rely on.
 use Rattle.std.proofs.Common.{◌≡◌, ◌≢◌, ℕ, ◌+◌, ◌-◌, ◌*◌, ◌/◌, ◌%◌, ◌<◌, ◌≤◌, ◌==◌, if◌then◌else◌, List, Option, Some, None, IsSome, IsNone, refl, sym, subst, inl, inr, arith}
 use Rattle.std.proofs.lemmas.Bool.Decides.{nat_tests}
+use Rattle.pg_bytes.specs.Lines.{EndsInside, line_at}
 use Rattle.pg_bytes.specs.PageLayout.{lower_of, upper_of, line_place}
 use Rattle.pg_bytes.specs.declared.line_ptr.LinePtr.{LinePtr}
 use Rattle.heap_page.specs.Fault.{HasBadHeader, IsMisplaced, IsSoundPage}
-use Rattle.heap_page.specs.Line.{IsNew, IsLine, IsNormal, line_at, line_count, EndsInside}
+use Rattle.heap_page.specs.Line.{IsNew, IsLine, IsNormal, heap_line_count}
 use Rattle.heap_page.specs.Settled.{AllSettled}
 use Rattle.heap_page.specs.Tuple.{header_of}
 use Rattle.heap_page.specs.Visibility.{state_of}
@@ -72,6 +73,6 @@ sound-settled page columns sound k normal =
 lines-most : (upper lower : ℕ) → (upper ≢ 0 → lower ≤ 8192) → lines_below upper lower ≤ 2042
 lines-most upper lower bound = grind (arith, nat_tests)
 
-pub most-lines : (page : List ℕ) (columns : ℕ) → IsSoundPage page columns → line_count page ≤ 2042
+pub most-lines : (page : List ℕ) (columns : ℕ) → IsSoundPage page columns → heap_line_count page ≤ 2042
 most-lines page columns sound =
     lines-most (upper_of page) (lower_of page) (λ used. let bounds = sound-header page columns sound used in omega arith)

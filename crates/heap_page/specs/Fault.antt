@@ -1,12 +1,13 @@
 -- What is wrong with a heap page by itself: with its header (cause 1), or with an item (causes 2 to 4).
 use Rattle.std.specs.Prelude.{◌≡◌, ◌≢◌, ◌⊎◌, ℕ, ◌+◌, ◌%◌, ◌<◌, ◌≤◌, List, IsTrue, IsNone}
 use Rattle.pg_bytes.specs.LeastFault.{IsLeastFault}
+use Rattle.pg_bytes.specs.Lines.{EndsInside, line_at}
 use Rattle.pg_bytes.specs.Numbers.{number_at}
-use Rattle.pg_bytes.specs.PageLayout.{page_size, header_size, flags_place, special_place, version_place, version_word}
-use Rattle.pg_bytes.specs.PageLayout.{lower_of, upper_of}
+use Rattle.pg_bytes.specs.PageLayout.{page_size, header_size, version_place, version_word}
+use Rattle.pg_bytes.specs.PageLayout.{header_flags_of, lower_of, special_of, upper_of}
 use Rattle.heap_page.specs.Infomask.{attributes_of, has_nulls}
 use Rattle.heap_page.specs.Layout.{flags_end, alignment, least_header, bitmap_place, bitmap_size}
-use Rattle.heap_page.specs.Line.{IsNew, line_count, line_at, IsNormal, IsRedirect, ShareByte, EndsInside}
+use Rattle.heap_page.specs.Line.{IsNew, heap_line_count, IsNormal, IsRedirect, ShareByte}
 use Rattle.heap_page.specs.Tuple.{header_of}
 use Rattle.heap_page.specs.Visibility.{state_of}
 use Rattle.pg_bytes.specs.declared.line_ptr.LinePtr.{LinePtr}
@@ -21,8 +22,8 @@ use Rattle.heap_page.specs.declared.header.Header.{Header}
 abbrev pub HasBadHeader : List ℕ → Type 0
 HasBadHeader page =
     (number_at 2 page version_place ≢ version_word)
-    ⊎ (flags_end ≤ number_at 2 page flags_place)
-    ⊎ (number_at 2 page special_place ≢ page_size)
+    ⊎ (flags_end ≤ header_flags_of page)
+    ⊎ (special_of page ≢ page_size)
     ⊎ (lower_of page < header_size)
     ⊎ (upper_of page < lower_of page)
     ⊎ (page_size < upper_of page)
@@ -47,7 +48,7 @@ IsMisplaced page item = IsOutOfPlace page (line_at page item) ⊎ SharesWithLess
 
 -- a redirect leads to no line pointer of the page
 abbrev pub IsAstray : List ℕ → ℕ → Type 0
-IsAstray page item = ((line_at page item).offset ≡ 0) ⊎ (line_count page < (line_at page item).offset)
+IsAstray page item = ((line_at page item).offset ≡ 0) ⊎ (heap_line_count page < (line_at page item).offset)
 
 -- a tuple's header doesn't fit its length or the table's number of columns
 abbrev pub IsUnfit : Header → ℕ → ℕ → Type 0

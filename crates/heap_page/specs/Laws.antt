@@ -1,7 +1,8 @@
 -- What follows from the definitions alone.
 use Rattle.std.specs.Prelude.{◌≡◌, ◌≢◌, ℕ, List}
+use Rattle.pg_bytes.specs.Lines.{EndsInside, line_at}
 use Rattle.heap_page.specs.Fault.{IsLeastPageFault, IsSoundPage}
-use Rattle.heap_page.specs.Line.{EndsInside, IsNormal, ShareByte, line_at}
+use Rattle.heap_page.specs.Line.{IsNormal, ShareByte}
 use Rattle.heap_page.specs.Settled.{AllSettled}
 use Rattle.heap_page.specs.declared.fault.PageFault.{PageFault}
 

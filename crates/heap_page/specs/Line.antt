@@ -1,8 +1,8 @@
 -- The line pointers of a heap page (bufpage.h, itemid.h). An item is told by its line pointer's number, from 1.
-use Rattle.std.specs.Prelude.{◌≡◌, ℕ, ◌+◌, ◌-◌, ◌/◌, ◌<◌, ◌≤◌, ◌==◌, if◌then◌else◌, List}
-use Rattle.pg_bytes.specs.Numbers.{number_at}
-use Rattle.pg_bytes.specs.PageLayout.{page_size, header_size, line_pointer_size, lower_of, upper_of, line_place}
-use Rattle.pg_bytes.specs.Pointers.{line_pointer_of, number_of_state}
+use Rattle.std.specs.Prelude.{◌≡◌, ℕ, ◌+◌, ◌<◌, ◌≤◌, ◌==◌, if◌then◌else◌, List}
+use Rattle.pg_bytes.specs.Lines.{line_at, line_count}
+use Rattle.pg_bytes.specs.PageLayout.{upper_of}
+use Rattle.pg_bytes.specs.Pointers.{number_of_state}
 use Rattle.pg_bytes.specs.declared.line_ptr.LinePtr.{LinePtr}
 use Rattle.pg_bytes.specs.declared.line_ptr.LineState.TheVariants.{Normal, Redirect}
 
@@ -10,17 +10,13 @@ use Rattle.pg_bytes.specs.declared.line_ptr.LineState.TheVariants.{Normal, Redir
 abbrev pub IsNew : List ℕ → Type 0
 IsNew page = upper_of page ≡ 0
 
--- PageGetMaxOffsetNumber: how many line pointers the page has
-abbrev pub line_count : List ℕ → ℕ
-line_count page = if upper_of page == 0 then 0 else (lower_of page - header_size) / line_pointer_size
-
--- an item's line pointer
-abbrev pub line_at : List ℕ → ℕ → LinePtr
-line_at page item = line_pointer_of (number_at line_pointer_size page (line_place item))
+-- how many line pointers a heap page has: none where it is new, whatever pd_lower says
+abbrev pub heap_line_count : List ℕ → ℕ
+heap_line_count page = if upper_of page == 0 then 0 else line_count page
 
 -- the page has a line pointer of this number
 abbrev pub IsLine : List ℕ → ℕ → Type 0
-IsLine page item = (1 ≤ item) × (item ≤ line_count page)
+IsLine page item = (1 ≤ item) × (item ≤ heap_line_count page)
 
 -- ItemIdIsNormal: it leads to a tuple of the page
 abbrev pub IsNormal : List ℕ → ℕ → Type 0
@@ -37,7 +33,3 @@ HasByte line place = (line.offset ≤ place) × (place < line.offset + line.leng
 -- two line pointers lead to a byte in common
 abbrev pub ShareByte : LinePtr → LinePtr → Type 0
 ShareByte a b = (place : ℕ) × HasByte a place × HasByte b place
-
--- the line pointer's bytes end on the page
-abbrev pub EndsInside : LinePtr → Type 0
-EndsInside line = line.offset + line.length ≤ page_size

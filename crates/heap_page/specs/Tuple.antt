@@ -1,9 +1,9 @@
 -- A heap tuple on its page (HeapTupleHeaderData of htup_details.h).
-use Rattle.std.specs.Prelude.{ℕ, ◌+◌, List, take, drop}
+use Rattle.std.specs.Prelude.{ℕ, ◌+◌, List}
+use Rattle.pg_bytes.specs.Lines.{bytes_of, line_at}
 use Rattle.pg_bytes.specs.Numbers.{number_at}
 use Rattle.pg_bytes.specs.Pointers.{row_pointer_at}
 use Rattle.heap_page.specs.Layout.{xmin_place, xmax_place, ctid_place, infomask2_place, infomask_place, hoff_place}
-use Rattle.heap_page.specs.Line.{line_at}
 use Rattle.heap_page.specs.declared.header.Header.{Header}
 
 -- the header that stands at a place
@@ -23,4 +23,4 @@ header_of page item = header_at page (line_at page item).offset
 
 -- the bytes of an item, its header among them
 abbrev pub item_of : List ℕ → ℕ → List ℕ
-item_of page item = take (line_at page item).length (drop (line_at page item).offset page)
+item_of page item = bytes_of page (line_at page item)

@@ -1,16 +1,17 @@
 ghost use Rattle.std.specs.Prelude.{◌≡◌, ◌↔◌, ◌⊎◌, ◌+◌, ◌-◌, ◌/◌, ◌<◌, IsTrue, IfErr, OnOk};
+ghost use Rattle.pg_bytes.specs.Lines.{line_at};
 ghost use Rattle.heap_page.specs.Fault.{IsMisplaced, IsOutOfPlace, IsUnfit};
 ghost use Rattle.heap_page.specs.Layout.{alignment};
-ghost use Rattle.heap_page.specs.Line.{IsLine, IsNormal, line_at};
+ghost use Rattle.heap_page.specs.Line.{IsLine, IsNormal};
 ghost use Rattle.heap_page.specs.Pass.Faults.{IsLeastCause, IsSoundAt};
 ghost use Rattle.heap_page.specs.Pass.Units.{IsMapBelow};
 
 use crate::fault::PageCause;
 use crate::header::Header;
-use crate::layout::{ALIGNMENT, LEAST_HEADER, NULL_BITMAP, header_at, line_at};
+use crate::layout::{ALIGNMENT, LEAST_HEADER, NULL_BITMAP, header_at};
 use crate::units::Units;
 use crate::used_page::UsedPage;
-use pg_bytes::{LinePtr, LineState, PAGE, PD_UPPER, Page, u16_at};
+use pg_bytes::{LinePtr, LineState, Page};
 
 // The least cause of an item's faults. The units of a faultless item are marked.
 pub(crate) fn check_item(page: &UsedPage, item: u16, units: &mut Units) -> Result<(), PageCause>
@@ -20,7 +21,7 @@ pub(crate) fn check_item(page: &UsedPage, item: u16, units: &mut Units) -> Resul
     ensures sound { OnOk result (IsSoundAt page.now.bytes page.now.columns item) }
     ensures map { OnOk result (IsMapBelow page.now.bytes (item + 1) units.new.marked) }
 {
-    let line = line_at(&page.bytes, item);
+    let line = page.bytes.line(item);
     match line.kind() {
         LineState::Normal => check_normal(page, item, line, units),
         LineState::Redirect if is_astray(line, page.lines) => Err(PageCause::BadLine),
@@ -82,8 +83,8 @@ fn is_out_of_place(page: &Page, line: LinePtr) -> bool
     ensures { IsTrue result ↔ IsOutOfPlace page.now line }
 {
     line.offset % ALIGNMENT != 0
-        || line.offset < u16_at(page.bytes(), PD_UPPER)
-        || PAGE < usize::from(line.offset) + usize::from(line.length)
+        || line.offset < page.upper()
+        || !line.ends_inside()
         || line.length < u16::from(LEAST_HEADER)
 }
 

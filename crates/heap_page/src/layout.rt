@@ -1,15 +1,12 @@
-ghost use Rattle.std.specs.Prelude.{◌≡◌, ◌≢◌, ◌+◌, ◌≤◌, ◌↔◌, length, IsTrue};
+ghost use Rattle.std.specs.Prelude.{◌≡◌, ◌+◌, ◌≤◌, ◌↔◌, length, IsTrue};
 ghost use Rattle.heap_page.specs.Layout.{bitmap_place};
-ghost use Rattle.heap_page.specs.Line.{IsNew, line_at, line_count};
+ghost use Rattle.heap_page.specs.Line.{IsNew, heap_line_count};
 ghost use Rattle.heap_page.specs.Tuple.{header_at};
 ghost use Rattle.pg_bytes.specs.Numbers.{number_at};
-ghost use Rattle.pg_bytes.specs.PageLayout.{header_size, line_pointer_size, page_size};
-ghost use Rattle.pg_bytes.specs.PageLayout.{line_place, lower_of};
+ghost use Rattle.pg_bytes.specs.PageLayout.{page_size};
 
 use crate::header::Header;
-use pg_bytes::{
-    LINE_POINTER, LinePtr, PAGE_HEADER, PD_LOWER, PD_UPPER, Page, RowPtr, u16_at, u32_at,
-};
+use pg_bytes::{Page, RowPtr, u16_at, u32_at};
 
 // Where the fields of a tuple's header stand (`HeapTupleHeaderData` of htup_details.h).
 const T_XMIN: usize = 0;
@@ -37,29 +34,14 @@ pub(crate) const ALIGNMENT: u16 = 8;
 pub(crate) fn is_new(page: &Page) -> bool
     ensures { IsTrue result ↔ IsNew page.now }
 {
-    u16_at(page.bytes(), PD_UPPER) == 0
+    page.upper() == 0
 }
 
 // How many line pointers a page has.
 pub(crate) fn lines_of(page: &Page) -> u16
-    requires { (IsNew page.now → ⊥) → header_size ≤ lower_of page.now }
-    ensures { result ≡ line_count page.now }
+    ensures { result ≡ heap_line_count page.now }
 {
-    if is_new(page) {
-        0
-    } else {
-        (u16_at(page.bytes(), PD_LOWER) - PAGE_HEADER as u16) / LINE_POINTER as u16
-    }
-}
-
-// The line pointer of an item.
-pub(crate) fn line_at(page: &Page, item: u16) -> LinePtr
-    requires first { 1 ≤ item }
-    requires fits { line_place item + line_pointer_size ≤ page_size }
-    ensures { result ≡ line_at page.now item }
-{
-    let place = PAGE_HEADER + LINE_POINTER * (usize::from(item) - 1);
-    LinePtr::of_word(u32_at(page.bytes(), place))
+    if is_new(page) { 0 } else { page.line_count() }
 }
 
 // The tuple header at a place.

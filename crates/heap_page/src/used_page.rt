@@ -1,14 +1,11 @@
 ghost use Rattle.std.specs.Prelude.{◌≡◌, ◌↔◌, IfErr, IfOk, IsTrue};
 ghost use Rattle.heap_page.specs.Fault.{HasBadHeader, IsLeastPageFault};
-ghost use Rattle.heap_page.specs.Line.{IsNew, line_count};
+ghost use Rattle.heap_page.specs.Line.{IsNew, heap_line_count};
 
 use crate::fault::{PageCause, PageFault};
 use crate::layout::lines_of;
 use crate::view::same_page;
-use pg_bytes::{
-    PAGE, PAGE_HEADER, PAGE_VERSION, PD_FLAGS, PD_LOWER, PD_PAGESIZE_VERSION, PD_SPECIAL, PD_UPPER,
-    Page, u16_at,
-};
+use pg_bytes::{PAGE, PAGE_HEADER, PAGE_VERSION, PD_PAGESIZE_VERSION, Page, u16_at};
 
 // The first number of `pd_flags` with a bit that stands for no flag (`PD_VALID_FLAG_BITS` + 1).
 const FLAGS_END: u16 = 0x0008;
@@ -22,7 +19,7 @@ pub(crate) struct UsedPage<'a> {
     pub(crate) lines: u16,
     ghost used: { IsNew bytes → ⊥ },
     ghost header: { HasBadHeader bytes → ⊥ },
-    ghost counted: { lines ≡ line_count bytes },
+    ghost counted: { lines ≡ heap_line_count bytes },
 }
 
 impl<'a> UsedPage<'a> {
@@ -48,12 +45,11 @@ impl<'a> UsedPage<'a> {
 fn has_bad_header(page: &Page) -> bool
     ensures { IsTrue result ↔ HasBadHeader page.now }
 {
-    let bytes = page.bytes();
-    let lower = u16_at(bytes, PD_LOWER);
-    let upper = u16_at(bytes, PD_UPPER);
-    u16_at(bytes, PD_PAGESIZE_VERSION) != PAGE_VERSION
-        || FLAGS_END <= u16_at(bytes, PD_FLAGS)
-        || u16_at(bytes, PD_SPECIAL) != PAGE as u16
+    let lower = page.lower();
+    let upper = page.upper();
+    u16_at(page.bytes(), PD_PAGESIZE_VERSION) != PAGE_VERSION
+        || FLAGS_END <= page.flags()
+        || page.special() != PAGE as u16
         || lower < PAGE_HEADER as u16
         || upper < lower
         || (PAGE as u16) < upper

@@ -1,12 +1,13 @@
 ghost use Rattle.std.specs.Prelude.{◌≡◌, ◌≤◌, ◌↔◌, length, IsTrue};
+ghost use Rattle.pg_bytes.specs.Lines.{line_at};
 ghost use Rattle.heap_page.specs.Fault.{IsSoundPage};
 ghost use Rattle.heap_page.specs.Layout.{most_lines};
-ghost use Rattle.heap_page.specs.Line.{IsLine, IsNormal, IsRedirect, line_at, line_count};
+ghost use Rattle.heap_page.specs.Line.{IsLine, IsNormal, IsRedirect, heap_line_count};
 ghost use Rattle.heap_page.specs.Settled.{AllSettled};
 ghost use Rattle.heap_page.specs.Tuple.{header_of, item_of};
 
 use crate::header::Header;
-use crate::layout::{header_at, line_at, lines_of};
+use crate::layout::{header_at, lines_of};
 use pg_bytes::{LinePtr, LineState, Page};
 use std::marker::Model;
 
@@ -45,7 +46,7 @@ impl<'a> View<'a> {
     /// How many line pointers the page has, at most 2,042 (`PageGetMaxOffsetNumber` of
     /// `bufpage.h`).
     pub fn lines(&self) -> u16
-        ensures count { result ≡ line_count self.now.bytes }
+        ensures count { result ≡ heap_line_count self.now.bytes }
         ensures most { result ≤ most_lines }
     {
         lines_of(&self.page)
@@ -56,7 +57,7 @@ impl<'a> View<'a> {
         requires { IsLine self.now.bytes item }
         ensures { result ≡ line_at self.now.bytes item }
     {
-        line_at(&self.page, item)
+        self.page.line(item)
     }
 
     /// Whether the line pointer leads to a tuple of the page.
@@ -90,8 +91,7 @@ impl<'a> View<'a> {
         ensures size { length result.now ≡ (line_at self.now.bytes item).length }
     {
         let line = self.line(item);
-        let start = usize::from(line.offset);
-        &self.page.bytes()[start..start + usize::from(line.length)]
+        self.page.bytes_of(&line)
     }
 }
 

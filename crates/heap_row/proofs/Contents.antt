@@ -4,10 +4,10 @@ use Rattle.std.proofs.Common.{◌≡◌, ℕ, ◌-◌, ◌<◌, ◌≤◌, List,
 use Rattle.std.specs.Prelude.{All}
 use Rattle.std.proofs.lemmas.List.{length-take-le, length-take}
 use Rattle.std.proofs.lemmas.List.Elements.{All-drop, All-take}
+use Rattle.pg_bytes.specs.Lines.{line_at}
 use Rattle.opclass.specs.declared.types.Width.{Width}
 use Rattle.opclass.specs.declared.types.Width.TheVariants.{Fixed, Variable}
 use Rattle.opclass.specs.Values.{IsAsWide}
-use Rattle.heap_page.specs.Line.{line_at}
 use Rattle.heap_page.specs.Tuple.{item_of}
 use Rattle.heap_row.specs.declared.varlena.Storage.TheVariants.{Plain}
 use Rattle.heap_row.specs.declared.varlena.Stored.{Stored}

@@ -20,8 +20,8 @@
 //!
 //! # What it promises
 //!
-//! - `read_values` leaves in its list exactly the values of the needed columns, in their order, by
-//!   the definition of each form of a value, and nothing of what the list had.
+//! - `read_values` gives exactly the values of the needed columns, in their order, by the definition
+//!   of each form of a value; `read_values_into` leaves them in a list, and nothing of what it had.
 //! - Each value is one that its column's type has: a number in the type's range, bytes, as many as a
 //!   type of a fixed width has, or an array of such elements. None is longer than the page, and no
 //!   element of an array is.
@@ -58,4 +58,4 @@ pub use fault::{RowCause, RowFault};
 pub use laws::{
     attributes_are_apart, attributes_are_inside, values_are_determined, values_are_of_their_types,
 };
-pub use values::read_values;
+pub use values::{read_values, read_values_into};

@@ -13,6 +13,30 @@ use heap_page::View;
 use opclass::{Column, Columns, KeyList, KeyVal, Table};
 use std::alloc::{AllocError, Global};
 
+/// Gives the values of the needed columns of an item's tuple, in the order of the columns, in a new
+/// list. It refuses what `read_values_into` refuses, for the same cause.
+pub fn read_values(
+    alloc: Global,
+    view: &View,
+    item: u16,
+    table: &Table,
+    needed: &Columns,
+) -> Result<KeyList, RowFault>
+    requires normal { IsNormal view.now.bytes item }
+    requires table { view.now.columns ≡ length table.now.columns }
+    requires needed { AreColumnsOf table.now.columns needed.now }
+    ensures values { IfOk result (λ values.
+        values_of (tuple_of view.now.bytes item) table.now.columns needed.now ≡ Ok values) }
+    ensures fault { IfErr result (IsFaultOf
+        (values_of (tuple_of view.now.bytes item) table.now.columns needed.now)) }
+    ensures typed { IfOk result
+        (AreReadOf table.now.columns (length view.now.bytes) needed.now) }
+{
+    let mut values = KeyList::new(alloc);
+    read_values_into(alloc, view, item, table, needed, &mut values)?;
+    Ok(values)
+}
+
 /// Fills a list anew with the values of the needed columns of an item's tuple, in the order of the
 /// columns (`heap_deform_tuple` of `heaptuple.c`). Columns are numbered from 1. Each value goes into
 /// the memory of the one at its place, so that a list which is kept for one row after the other
@@ -24,7 +48,7 @@ use std::alloc::{AllocError, Global};
 /// 0 nor 1, and an array that isn't one of its type.
 ///
 /// Each value is one that its column's type has, and no longer than the page.
-pub fn read_values(
+pub fn read_values_into(
     alloc: Global,
     view: &View,
     item: u16,

@@ -7,7 +7,7 @@ mod columns;
 mod values;
 
 use heap_page::check_page;
-use heap_row::{RowFault, read_values};
+use heap_row::{RowFault, read_values, read_values_into};
 use opclass::{ColType, Column, Columns, Elem, KeyList, KeyVal, Table};
 use pg_bytes::{Items, Page};
 use std::alloc::{AllocError, Global};
@@ -24,7 +24,7 @@ enum Want {
 }
 
 // Reads the needed columns of a tuple of a table with columns of these types into a list, whatever
-// it has.
+// it has, and into a new one.
 fn read(
     alloc: Global,
     kinds: &[ColType],
@@ -41,7 +41,12 @@ fn read(
     if usize::from(count) != table.columns.len() || view.lines() == 0 || !view.is_normal(1) {
         return Err("the page has no tuple of the table").map_err(Fail::from);
     }
-    Ok(read_values(alloc, &view, 1, &table, &needed, values))
+    let fresh = read_values(alloc, &view, 1, &table, &needed);
+    let answer = read_values_into(alloc, &view, 1, &table, &needed, values);
+    if fresh.map(|list| list.len()) != answer.map(|()| values.len()) {
+        return Err("a new list has other values").map_err(Fail::from);
+    }
+    Ok(answer)
 }
 
 fn table_of(alloc: Global, kinds: &[ColType]) -> Result<Table, AllocError> {

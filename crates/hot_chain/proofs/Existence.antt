@@ -5,10 +5,11 @@ use Rattle.std.proofs.Common.{◌≡◌, ◌⊎◌, inl, inr, ℕ, zero, suc, �
 use Rattle.std.proofs.Math.ListN.{set}
 use Rattle.std.proofs.lemmas.Bool.{both_ways, cases_Bool, cases_eq, cases_lt}
 use Rattle.std.proofs.lemmas.Option.{none-some}
+use Rattle.pg_bytes.specs.Lines.{line_at}
 use Rattle.pg_bytes.specs.Pointers.{number_of_state}
 use Rattle.pg_bytes.specs.declared.line_ptr.LineState.TheVariants.{Normal, Redirect}
 use Rattle.heap_page.specs.Infomask.{is_heap_only}
-use Rattle.heap_page.specs.Line.{IsLine, IsNormal, IsRedirect, line_at, line_count}
+use Rattle.heap_page.specs.Line.{IsLine, IsNormal, IsRedirect, heap_line_count}
 use Rattle.heap_page.specs.Tuple.{header_of}
 use Rattle.hot_chain.specs.Chain.{Follows, IsHead, Own, Redirected, IsHeapOnly, IsInNoChain, IsLast, IsNoStart, is_hot_updated}
 use Rattle.hot_chain.specs.Pass.RootOffsets.{root_offset, HasRootOffset, IsClosed, IsWalked}
@@ -33,7 +34,7 @@ IsLineIn page k state = IsLine page k × ((line_at page k).state ≡ state)
 cases_state : (page : List ℕ) (k state : ℕ) → IsLineIn page k state ⊎ (IsLineIn page k state → ⊥)
 cases_state page k state = elim (cases_lt 0 k) [
   | inr none ↦ inr (λ n. omega (arith, n.0.0))
-  | inl some ↦ elim (cases_lt (line_count page) k) [
+  | inl some ↦ elim (cases_lt (heap_line_count page) k) [
     | inl past ↦ inr (λ n. omega (arith, n.0.1))
     | inr inside ↦ elim (cases_eq (line_at page k).state state) [
       | inl same ↦ inl ((omega arith, omega arith), same)
@@ -96,7 +97,7 @@ head_of page start =
 
 -- the root offsets once a start's chain is walked
 pub record IsAfter (page : List ℕ) (start : ℕ) (old new : List (Option ℕ)) : Type 0 where
-  pub room : length new ≡ line_count page + 1
+  pub room : length new ≡ heap_line_count page + 1
   pub walked : IsWalked page start old new
   pub closed : IsClosed page new
 
@@ -141,7 +142,7 @@ walk_down page (suc start) offsets filling =
 -- a heap-only item has a root, or no chain has it
 pub cases_root : (page : List ℕ) (item : ℕ) → IsHeapOnly page item → ((root : ℕ) × IsRoot page item root) ⊎ IsInNoChain page item
 cases_root page item only =
-    let from : ℕ = line_count page + 1 in
+    let from : ℕ = heap_line_count page + 1 in
     let all = walk_down page from (replicate from None) (fill_begins page from refl) in
     elim (cases_option (root_offset all.0 item)) [
       | inl bare ↦ inr (λ start m. all.1.greatest.none item start bare (omega arith) m)

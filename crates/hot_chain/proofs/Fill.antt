@@ -3,7 +3,7 @@ use Rattle.std.proofs.Common.{◌≡◌, IfSome, IfNone, replicate, inl, inr, �
 use Rattle.std.proofs.lemmas.Bool.{cases_lt}
 use Rattle.std.proofs.lemmas.List.{get_or_past, get_or-replicate, length-replicate}
 use Rattle.std.proofs.lemmas.Option.{none-some}
-use Rattle.heap_page.specs.Line.{line_count}
+use Rattle.heap_page.specs.Line.{heap_line_count}
 use Rattle.hot_chain.specs.Chain.{HasMember, IsHeapOnly, IsInNoChain}
 use Rattle.hot_chain.specs.Roots.{IsGreatestStart, IsRoot}
 use Rattle.hot_chain.specs.Pass.RootOffsets.{root_offset, IsClosed, IsWalked, AreGreatestFrom}
@@ -12,7 +12,7 @@ use Rattle.hot_chain.proofs.Walk.{cases_option}
 
 -- the starts from a number on are walked
 pub record IsFilling (page : List ℕ) (from : ℕ) (offsets : List (Option ℕ)) : Type 0 where
-  pub room : length offsets ≡ line_count page + 1
+  pub room : length offsets ≡ heap_line_count page + 1
   pub closed : IsClosed page offsets
   pub greatest : AreGreatestFrom page from offsets
 
@@ -25,7 +25,7 @@ none_of_nones n item =
     ]
 
 -- no start is walked, and no item has a root offset
-pub fill_begins : (page : List ℕ) (from : ℕ) → from ≡ line_count page + 1 → IsFilling page from (replicate from None)
+pub fill_begins : (page : List ℕ) (from : ℕ) → from ≡ heap_line_count page + 1 → IsFilling page from (replicate from None)
 fill_begins page from last = record {
   room = length-replicate {A = Option ℕ} from None ∙ last;
   closed = record { next = λ item next has f. absurd (none-some has.0 (sym (none_of_nones from item) ∙ has.1)) };

@@ -6,7 +6,7 @@ use Rattle.std.proofs.lemmas.List.Elements.{All-push}
 use Rattle.std.proofs.lemmas.List.Quantifiers.{Any-push, all_pairs_push}
 use Rattle.std.proofs.lemmas.Bool.{cases_eq, cases_lt, both_ways}
 use Rattle.pg_bytes.specs.LeastFault.{IsNotBehind}
-use Rattle.heap_page.specs.Line.{line_count}
+use Rattle.heap_page.specs.Line.{heap_line_count}
 use Rattle.hot_chain.specs.Roots.{IsLive, IsRoot, IsRootOfLesser, IsOrphan, Row, AreRows, HasChainFault, HasSoundChains, IsLeastChainFault, number_of_root_cause}
 use Rattle.hot_chain.specs.Pass.Rows.{AreRowsOfItemsBelow, IsInIndex}
 use Rattle.hot_chain.specs.declared.fault.RootCause.{RootCause}
@@ -104,7 +104,7 @@ module _ (page : List ℕ) (end : ℕ) (rows : List Row) (in_index : List Bool) 
     least = least_here 6 (six_at_least root r);
   }
 
-  pub rows_end : line_count page < end → AreRows page rows × HasSoundChains page
+  pub rows_end : heap_line_count page < end → AreRows page rows × HasSoundChains page
   rows_end last = (
     record {
       each = done.each;

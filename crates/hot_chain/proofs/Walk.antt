@@ -7,7 +7,7 @@ use Rattle.std.proofs.lemmas.List.{length-set}
 use Rattle.std.proofs.lemmas.List.Sums.{sum_by-set}
 use Rattle.std.proofs.lemmas.Bool.{cases_eq}
 use Rattle.std.proofs.lemmas.Option.{none-some, same_Some}
-use Rattle.heap_page.specs.Line.{line_count, IsNormal}
+use Rattle.heap_page.specs.Line.{heap_line_count, IsNormal}
 use Rattle.hot_chain.specs.Chain.{Follows, IsHead, IsLast, IsNoStart, IsBehind, HasMember}
 use Rattle.hot_chain.specs.Pass.RootOffsets.{root_offset, HasRootOffset, IsClosed, IsWalked}
 use Rattle.hot_chain.proofs.ChainLemmas.{follows-is-one, head-is-one, head-is-member, next-is-member, member-is-normal}
@@ -19,7 +19,7 @@ cases_option (Some x) = inr (x, refl)
 
 -- The walk has come to an item, or to the chain's end.
 pub record IsWalking (page : List ℕ) (start : ℕ) (old : List (Option ℕ)) (reached : Option ℕ) (new : List (Option ℕ)) : Type 0 where
-  pub room : length new ≡ line_count page + 1
+  pub room : length new ≡ heap_line_count page + 1
   pub kept : (item other : ℕ) → root_offset old item ≡ Some other → root_offset new item ≡ Some other
   pub given : (item other : ℕ) → root_offset old item ≡ None → root_offset new item ≡ Some other → (other ≡ start) × HasMember page start item
   pub here : (item : ℕ) → reached ≡ Some item → HasMember page start item
@@ -46,7 +46,7 @@ offset_set new item start k inside has =
 offset_at : (new : List (Option ℕ)) (item start : ℕ) → item < length new → HasRootOffset (set new item (Some start)) item
 offset_at new item start inside = (start, get_or-set_same new item (Some start) None inside)
 
-pub walk_begins : (page : List ℕ) (start : ℕ) (old : List (Option ℕ)) (reached : Option ℕ) → length old ≡ line_count page + 1 → IsClosed page old
+pub walk_begins : (page : List ℕ) (start : ℕ) (old : List (Option ℕ)) (reached : Option ℕ) → length old ≡ heap_line_count page + 1 → IsClosed page old
     → IfSome reached (IsHead page start) → IfNone reached (IsNoStart page start) → IsWalking page start old reached old
 walk_begins page start old reached room closed some none = record {
   room = room;

@@ -1,8 +1,9 @@
 -- The HOT chains of a heap page (heap_get_root_tuples of pruneheap.c, README.HOT). An item is told by its line
 -- pointer's number.
 use Rattle.std.specs.Prelude.{◌≡◌, ℕ, zero, suc, List, IsTrue, Bool, not, ◌&&◌}
+use Rattle.pg_bytes.specs.Lines.{line_at}
 use Rattle.heap_page.specs.Infomask.{has_hot_update, is_heap_only, xmax_invalid, xmin_aborted}
-use Rattle.heap_page.specs.Line.{line_at, IsNormal, IsRedirect}
+use Rattle.heap_page.specs.Line.{IsNormal, IsRedirect}
 use Rattle.heap_page.specs.Tuple.{header_of}
 use Rattle.heap_page.specs.declared.header.Header.{Header}
 

@@ -1,5 +1,5 @@
 ghost use Rattle.std.specs.Prelude.{◌≡◌, ◌+◌, ◌↔◌, length, IsTrue, IfOk, OnOk, IfErr, IfNone, IfSome};
-ghost use Rattle.heap_page.specs.Line.{IsLine, IsNormal, line_count};
+ghost use Rattle.heap_page.specs.Line.{IsLine, IsNormal, heap_line_count};
 ghost use Rattle.heap_page.specs.Settled.{AllSettled};
 ghost use Rattle.hot_chain.specs.Chain.{IsHeapOnly, IsInNoChain};
 ghost use Rattle.hot_chain.specs.Pass.RootOffsets.{AreRootOffsets};
@@ -45,7 +45,7 @@ fn add_row(
     requires settled { AllSettled view.now.bytes }
     requires offsets { IfSome offsets.old
         (λ known. AreRootOffsets view.now.bytes known.items) }
-    requires room { length in_index.old ≡ line_count view.now.bytes + 1 }
+    requires room { length in_index.old ≡ heap_line_count view.now.bytes + 1 }
     requires done { AreRowsOfItemsBelow view.now.bytes item roots.old in_index.old }
     ensures offsets { OnOk result
         (IfSome offsets.new (λ known. AreRootOffsets view.now.bytes known.items)) }

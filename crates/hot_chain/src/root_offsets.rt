@@ -1,5 +1,5 @@
 ghost use Rattle.std.specs.Prelude.{◌≡◌, ◌+◌, IfOk, length};
-ghost use Rattle.heap_page.specs.Line.{IsLine, line_count};
+ghost use Rattle.heap_page.specs.Line.{IsLine, heap_line_count};
 ghost use Rattle.hot_chain.specs.Pass.RootOffsets.{AreRootOffsets, IsClosed, IsWalked};
 
 use crate::chain::{head_of, next_of};
@@ -24,7 +24,7 @@ pub(crate) fn root_offsets_of(alloc: Global, view: &View) -> Result<Vec<Option<u
 // no more than any other.
 fn walk_chain(view: &View, start: u16, offsets: &mut [Option<u16>])
     requires start { IsLine view.now.bytes start }
-    requires room { length offsets.old ≡ line_count view.now.bytes + 1 }
+    requires room { length offsets.old ≡ heap_line_count view.now.bytes + 1 }
     requires closed { IsClosed view.now.bytes offsets.old }
     ensures walked { IsWalked view.now.bytes start offsets.old offsets.new }
     ensures closed { IsClosed view.now.bytes offsets.new }

@@ -6,7 +6,7 @@ use Rattle.std.proofs.lemmas.List.Elements.{All-nil, All-push}
 use Rattle.std.specs.Str.{bytes_eq}
 use Rattle.stmt_token.specs.declared.sign.Sign.TheVariants.{Comma, Equal, LeftParen, RightParen}
 use Rattle.stmt_token.specs.Borrowed.{number_of}
-use Rattle.stmt_token.specs.Tokens.{TokenValue}
+use Rattle.stmt_token.specs.Tokens.{TokenValue, tokens_of}
 use Rattle.opclass.specs.declared.types.Method.{Method}
 use Rattle.opclass.specs.declared.types.Method.TheVariants as method
 use Rattle.opclass.specs.declared.spec.IndexSpec.{IndexSpec}
@@ -15,7 +15,7 @@ use Rattle.opclass.specs.declared.table.Table.{Table}
 use Rattle.opclass.specs.Types.{facts_of, takes_key}
 use Rattle.index_stmt.specs.declared.columns.Found.{Found}
 use Rattle.index_stmt.specs.declared.fault.StmtCause.{StmtCause}
-use Rattle.index_stmt.specs.declared.fault.StmtCause.TheVariants.{NotAllowed, OutOfRange, UnknownName, Repeated}
+use Rattle.index_stmt.specs.declared.fault.StmtCause.TheVariants.{NotAllowed, NoToken, OutOfRange, UnknownName, Repeated}
 use Rattle.index_stmt.specs.declared.options.OptionName.{OptionName}
 use Rattle.index_stmt.specs.declared.options.OptionName.TheVariants.{DeduplicateItems, Fastupdate, Fillfactor, PagesPerRange}
 use Rattle.index_stmt.specs.declared.options.Settings.{Settings}
@@ -25,7 +25,9 @@ use Rattle.index_stmt.specs.IndexStatement.{direction, distinctness, include_lis
 use Rattle.opclass.specs.Indexes.{IsIndexOver, IsKeyOf, IsPlain, most_columns}
 use Rattle.index_stmt.specs.Names.{name, word_in, qualified}
 use Rattle.index_stmt.specs.Options.{as_truth, fillfactor_of, in_range, known_option, option, option_list, options, pages_per_range_of, set_to, truth_in, unset, value_in, with_option, deduplicate_of, is_set, option_named}
-use Rattle.index_stmt.specs.Rule.{done, is_sign, is_word, meaning, next_is, refused, separated, sign, token_as, word}
+use Rattle.index_stmt.specs.Cause.{number_of_cause}
+use Rattle.index_stmt.specs.Faults.{index_of, told}
+use Rattle.index_stmt.specs.Rule.{Read, done, is_sign, is_word, meaning, next_is, refused, separated, sign, token_as, word}
 use Rattle.index_stmt.specs.TableStatement.{end_of_statement}
 use Rattle.index_stmt.proofs.Lists.{both_read}
 use Rattle.index_stmt.proofs.Spellable.{both_true}
@@ -411,3 +413,17 @@ index_is table tokens spec rest e =
       default_pages = settings.default_pages;
       filter = filter_is table f.1 g.0 g.1 g.2;
     })
+
+-- the index that a text describes is an index over the table
+pub described_is : (table : Table) (text : List ℕ) (spec : IndexSpec) → index_of table text ≡ Ok spec
+    → IsIndexOver table spec
+described_is table text spec e = which (nat_lt 65536 (length text)) (index_statement table (tokens_of text)) refl e
+  where
+    which : (long : Bool) (read : Read IndexSpec) → index_statement table (tokens_of text) ≡ read
+        → cond long (Err (record { statement = 2; place = 65536; cause = number_of_cause NoToken })) (told 2 text read) ≡ Ok spec
+        → IsIndexOver table spec
+    which true read is e = cc
+    which false (Err fault) is e = cc
+    which false (Ok read) is e =
+        let same : read.0 ≡ spec = cc in
+        subst (IsIndexOver table) same (index_is table (tokens_of text) read.0 read.1 is)

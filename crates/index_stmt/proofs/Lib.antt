@@ -1,3 +1,5 @@
+-- Other crates cite `described_is` of Indexes. The rest is this crate's own.
+
 -- what a statement has behind a token
 pub mod Ends
 -- which rules take a token, and lists of items

@@ -1,5 +1,5 @@
 -- There is one least fault.
-use Rattle.std.proofs.Common.{◌≡◌, ◌⊎◌, ℕ, ◌<◌, ◌≤◌, subst, sym, inl, inr, arith}
+use Rattle.std.proofs.Common.{◌≡◌, ℕ, subst, sym, inl, inr, arith}
 use Rattle.pg_bytes.specs.LeastFault.{IsLeastFault, IsNotBehind}
 
 -- two faults of which neither is behind the other are one

@@ -39,3 +39,13 @@ item_page special items =
     ++ (line_pointers (page_size - length special) items
     ++ (zeros (upper_at special items - lower_at items)
     ++ (placed_items items ++ special)))
+
+-- The page of these items where the first one is placed last, so that its bytes lie lowest, though its line pointer is
+-- the first: a B-tree's page with its high key (P_HIKEY of nbtree.h, _bt_buildadd of nbtsort.c).
+unfoldable pub first_lowest_page : List ℕ → List ℕ → List (List ℕ) → List ℕ
+first_lowest_page special first items =
+    page_header (lower_at (first ∷ items)) (upper_at special (first ∷ items)) (page_size - length special)
+    ++ (number_bytes 4 (normal_word (upper_at special (first ∷ items)) (length first))
+    ++ (line_pointers (page_size - length special) items
+    ++ (zeros (upper_at special (first ∷ items) - lower_at (first ∷ items))
+    ++ (aligned first ++ (placed_items items ++ special)))))

@@ -10,6 +10,12 @@ pub mod Pointers
 pub mod PageLayout
 -- a page of items as a whole
 pub mod ItemPage
+-- what is read of a page by its line pointers
+pub mod Lines
+-- that items are read as they were put
+pub mod Laws
+-- the blocks of a file
+pub mod Blocks
 -- the image of an index file
 pub mod Image
 -- the one fault that is told of many

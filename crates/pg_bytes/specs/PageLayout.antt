@@ -1,5 +1,5 @@
 -- A page and the writes into it (`PageHeaderData` of bufpage.h, `PageAddItemExtended` of bufpage.c).
-use Rattle.std.specs.Prelude.{ℕ, ◌+◌, ◌-◌, ◌*◌, max, List, ◌++◌, length}
+use Rattle.std.specs.Prelude.{ℕ, ◌+◌, ◌-◌, ◌*◌, max, List, ◌++◌, length, drop}
 use Rattle.pg_bytes.specs.Numbers.{number_at, number_bytes, rounded_up}
 use Rattle.pg_bytes.specs.Places.{zeros, written}
 use Rattle.pg_bytes.specs.Pointers.{word_of}
@@ -53,6 +53,18 @@ lower_of page = number_at 2 page lower_place
 -- pd_upper, where the items begin
 abbrev pub upper_of : List ℕ → ℕ
 upper_of page = number_at 2 page upper_place
+
+-- pd_flags
+abbrev pub header_flags_of : List ℕ → ℕ
+header_flags_of page = number_at 2 page flags_place
+
+-- pd_special, where the special space begins
+abbrev pub special_of : List ℕ → ℕ
+special_of page = number_at 2 page special_place
+
+-- PageGetSpecialPointer: the special space, the last bytes of the page
+abbrev pub special_space_of : List ℕ → List ℕ
+special_space_of page = drop (special_of page) page
 
 -- an item's bytes and the zeros up to its alignment
 unfoldable pub aligned : List ℕ → List ℕ

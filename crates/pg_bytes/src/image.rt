@@ -1,4 +1,4 @@
-ghost use Rattle.std.specs.Prelude.{◌≡◌, ◌⊎◌, ◌+◌, ◌*◌, ◌<◌, ◌≤◌, ◌^◌, [], length, max, OnOk, OnErr};
+ghost use Rattle.std.specs.Prelude.{◌≡◌, ◌⊎◌, ◌+◌, ◌*◌, ◌<◌, ◌≤◌, ◌^◌, [], ◌++◌, length, max, OnOk, OnErr};
 ghost use Rattle.pg_bytes.specs.Image.{filled_up, placed};
 ghost use Rattle.pg_bytes.specs.PageLayout.{page_size};
 ghost use Rattle.pg_bytes.specs.Places.{written};
@@ -62,6 +62,19 @@ impl IndexImage {
         let at = number as usize * PAGE;
         set_block(&mut self.bytes, at, page.bytes())?;
         Ok(())
+    }
+
+    /// Adds a block behind the last one. An error means that no memory was left, and then the image
+    /// is unchanged.
+    pub fn append(&mut self, page: &PageBuf) -> Result<(), AllocError>
+        requires { length self.old < 2 ^ 31 * page_size }
+        ensures ok { OnOk result (self.new ≡ self.old ++ page.now) }
+        ensures size { OnOk result (length self.new ≡ length self.old + page_size) }
+        ensures err { OnErr result (self.new ≡ self.old) }
+    {
+        let number = self.blocks();
+        let _bytes = page.bytes();
+        self.place(number, page)
     }
 }
 

@@ -1,4 +1,6 @@
-ghost use Rattle.std.specs.Prelude.{◌≡◌, ◌<◌, ◌^◌};
+ghost use Rattle.std.specs.Prelude.{◌≡◌, ◌↔◌, ◌<◌, ◌^◌, IsTrue};
+
+use crate::PAGE;
 
 /// What a line pointer says of itself (`LP_UNUSED` to `LP_DEAD` of `itemid.h`).
 #[derive(Clone, Copy, Debug, PartialEq, Eq)]
@@ -20,6 +22,7 @@ pub struct LinePtr {
 }
 
 impl LinePtr {
+    ghost use Rattle.pg_bytes.specs.Lines.{EndsInside};
     ghost use Rattle.pg_bytes.specs.Pointers.{line_pointer_of, number_of_state, word_of};
 
     /// The line pointer in a page's word: 15 bits of offset, 2 of state, 15 of length, the lowest
@@ -57,5 +60,12 @@ impl LinePtr {
             2 => LineState::Redirect,
             _ => LineState::Dead,
         }
+    }
+
+    /// Whether its bytes end on the page.
+    pub fn ends_inside(&self) -> bool
+        ensures { IsTrue result ↔ EndsInside self.now }
+    {
+        usize::from(self.offset) + usize::from(self.length) <= PAGE
     }
 }

@@ -1,6 +1,7 @@
-ghost use Rattle.std.specs.Prelude.{◌≡◌, ◌↔◌, ◌+◌, ◌≤◌, length, IsTrue};
+ghost use Rattle.std.specs.Prelude.{◌≡◌, ◌↔◌, ◌+◌, ◌≤◌, ◌++◌, length, IsTrue, OnOk, OnErr};
 
 use crate::numbers::{put_u16_at, u16_at};
+use std::alloc::AllocError;
 
 /// A row pointer (`ItemPointerData` of `itemptr.h`): a block of the heap and the number of a line
 /// pointer on it, counted from 1. Ordered by block, then offset.
@@ -43,5 +44,23 @@ impl RowPtr {
         put_u16_at(bytes, place, (self.block >> 16) as u16);
         put_u16_at(bytes, place + 2, (self.block % (1 << 16)) as u16);
         put_u16_at(bytes, place + 4, self.offset);
+    }
+
+    /// The six bytes, as `at` reads them.
+    #[tactic(auto, unfolding(crate::specs::Numbers::number_bytes, crate::specs::Places::written, crate::specs::Pointers::row_pointer_bytes))]
+    pub fn bytes(&self) -> [u8; 6]
+        ensures { result ≡ row_pointer_bytes self.now }
+    {
+        let mut bytes = [0u8; 6];
+        self.put(&mut bytes, 0);
+        bytes
+    }
+
+    /// Adds the six bytes at the end of a buffer.
+    pub fn append(&self, out: &mut Vec<u8>) -> Result<(), AllocError>
+        ensures ok { OnOk result (out.new.items ≡ out.old.items ++ row_pointer_bytes self.now) }
+        ensures err { OnErr result (out.new.items ≡ out.old.items) }
+    {
+        out.extend_from_slice(&self.bytes())
     }
 }

@@ -3,7 +3,7 @@ use Rattle.std.proofs.Common.{◌≡◌, ℕ, List, Option, Some, None, Result, 
 use Rattle.std.proofs.lemmas.Bool.{cases_order}
 use Rattle.index_stmt.specs.declared.fault.StmtFault.{StmtFault}
 use Rattle.build_leader.proofs.Determined.{same_outcome}
-use Rattle.build_leader.specs.Blocks.{IsWhole}
+use Rattle.build_leader.specs.Blocks.{IsHeapFile}
 use Rattle.pg_index.specs.HeapFile.{HasFileFault, OnFile}
 use Rattle.pg_index.specs.Laws.{OutcomeIsDetermined}
 use Rattle.pg_index.specs.Outcome.{Asks, HasHeapOutcome, HeapOutcome, OfBlocks, OfFile, OfHeap, Statement, Usage}
@@ -14,7 +14,7 @@ use Rattle.pg_index.specs.declared.heap_file.FileCause.TheVariants.{NotWhole, To
 use Rattle.pg_index.specs.declared.statements.Asked.{Asked}
 
 -- a file of whole blocks has no fault as a file
-pub no_file_fault : (heap : List ℕ) (of : FileCause) (block : ℕ) → IsWhole heap → HasFileFault heap of block → ⊥
+pub no_file_fault : (heap : List ℕ) (of : FileCause) (block : ℕ) → IsHeapFile heap → HasFileFault heap of block → ⊥
 no_file_fault heap TooLong block whole fault = omega (arith, whole.0, fault.0)
 no_file_fault heap NotWhole block whole fault = fault.1 whole.1
 

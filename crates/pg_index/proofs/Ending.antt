@@ -1,11 +1,12 @@
 -- What was read of the heap file tells what the words and the file come to, and what is delivered after reading alone is
 -- delivered all in all.
 use Rattle.std.proofs.Common.{◌≡◌, ◌⊎◌, ℕ, ◌<◌, ◌≤◌, List, length, take, Option, Some, Result, Err, ap, ap₂, subst, sym, ◌∙◌, arith, inl, inr, refl}
+use Rattle.pg_bytes.specs.Blocks.{block_count}
 use Rattle.pg_files.specs.Files.{ToldSays, ToldSets}
 use Rattle.pg_files.specs.Outside.{FileMap, OnlyReads, Outside}
 use Rattle.std.specs.Prelude.{Bool, ◌+◌, string_bytes}
 use Rattle.block_claim.specs.Legal.{IsLegal}
-use Rattle.build_leader.specs.Blocks.{block_count, most_bytes}
+use Rattle.build_leader.specs.Blocks.{most_bytes}
 use Rattle.build_leader.specs.Outcome.{Duplicate, Faulty, Indexed, RangeWide}
 use Rattle.build_leader.specs.declared.fault.LeadFault.TheVariants as lead
 use Rattle.opclass.specs.Indexes.{IsIndexOver}

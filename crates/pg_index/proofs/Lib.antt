@@ -7,4 +7,5 @@ pub mod Growing
 pub mod Ending
 pub mod Determined
 pub mod Answering
+pub mod AskedIndex
 pub mod Headlines

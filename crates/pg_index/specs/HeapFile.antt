@@ -1,8 +1,9 @@
 -- A heap file: how it is read, and what is wrong with it as a whole.
 use Rattle.std.specs.Prelude.{◌≡◌, ◌≢◌, ◌⊎◌, ℕ, ◌%◌, ◌<◌, ◌≤◌, ⊤}
 use Rattle.std.specs.Prelude.{List, length, take, Option, Some, None, Result, IsOk, IsErrOf}
+use Rattle.pg_bytes.specs.Blocks.{block_count}
 use Rattle.pg_bytes.specs.PageLayout.{page_size}
-use Rattle.build_leader.specs.Blocks.{block_count, most_blocks, most_bytes}
+use Rattle.build_leader.specs.Blocks.{most_blocks, most_bytes}
 use Rattle.pg_files.specs.Faults.{most_faults}
 use Rattle.pg_files.specs.Outside.{FileMap, Outside}
 use Rattle.pg_index.specs.declared.heap_file.FileCause.{FileCause}

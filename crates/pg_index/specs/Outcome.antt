@@ -2,7 +2,7 @@
 use Rattle.std.specs.Prelude.{◌≡◌, ℕ, List, Option, Ok, Err}
 use Rattle.pg_files.specs.Outside.{FileMap}
 use Rattle.index_stmt.specs.declared.fault.StmtFault.{StmtFault}
-use Rattle.build_leader.specs.Blocks.{IsWhole}
+use Rattle.build_leader.specs.Blocks.{IsHeapFile}
 use Rattle.build_leader.specs.Outcome.{BuildOutcome, HasBuildOutcome}
 use Rattle.pg_index.specs.HeapFile.{HasFileFault, OnToldFile}
 use Rattle.pg_index.specs.Statements.{asked_of}
@@ -23,7 +23,7 @@ pub data Outcome : Type 0 where
 
 abbrev pub HasHeapOutcome : Asked → List ℕ → HeapOutcome → Type 0
 HasHeapOutcome asked heap (OfFile cause block) = HasFileFault heap cause block
-HasHeapOutcome asked heap (OfBlocks outcome) = IsWhole heap × HasBuildOutcome asked.table asked.spec heap outcome
+HasHeapOutcome asked heap (OfBlocks outcome) = IsHeapFile heap × HasBuildOutcome asked.table asked.spec heap outcome
 
 -- the words are in order, and ask for this
 abbrev pub Asks : List (List ℕ) → Asked → Type 0

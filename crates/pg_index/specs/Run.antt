@@ -1,10 +1,10 @@
 -- What a build answers, and what it leaves outside.
 use Rattle.std.specs.Prelude.{IsSome, ◌≡◌, ◌⊎◌, ◌+◌, ℕ, List, [], length, Option, Some, None}
+use Rattle.pg_bytes.specs.Blocks.{block_count}
 use Rattle.pg_files.specs.Outside.{OnlyReads, Outside}
 use Rattle.block_claim.specs.declared.claim.Claim.{Claim}
 use Rattle.block_claim.specs.Legal.{IsLegal}
 use Rattle.opclass.specs.Indexes.{IsIndexOver}
-use Rattle.build_leader.specs.Blocks.{block_count}
 use Rattle.build_leader.specs.Outcome.{Faulty, Duplicate, Indexed, RangeWide, IsIndexFile}
 use Rattle.shared_tape.specs.declared.stored.Record.{Record}
 use Rattle.pg_index.specs.HeapFile.{OnToldFile, number_of_file_cause}

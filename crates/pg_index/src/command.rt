@@ -53,7 +53,8 @@ pub fn run<Rt: Threads + Sync, F: Files, G: Gate + Sync>(
         → HasOutcome (texts_of words.now) (Some told) outcome
         → IsAnswered outcome result.fault }
 
-    // What holds for every heap, table and index, whoever claims which of its blocks.
+    // What holds for every heap, table and index, whoever claims which of its blocks: what a built
+    // index has, and where a unique one is refused.
     ensures headline { (told : FileMap) (heap : List ℕ) (asked : Asked)
         → (F.outside files.old).files ≡ Some told
         → told (heap_name (texts_of words.now)) ≡ Some heap

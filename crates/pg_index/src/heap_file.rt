@@ -1,7 +1,7 @@
 ghost use Rattle.std.specs.Prelude.{◌≡◌, ◌+◌, ◌<◌, ◌≤◌, length, IfOk, IfErr, OnOk};
 ghost use Rattle.pg_files.specs.Outside.{OnlyReads};
 ghost use Rattle.pg_index.specs.HeapFile.{CountsHeapRead, HasFileFault, IsHeapOf, OnToldFile, ReadsOn, number_of_file_cause};
-ghost use Rattle.build_leader.specs.Blocks.{IsWhole, most_bytes};
+ghost use Rattle.build_leader.specs.Blocks.{IsHeapFile, most_bytes};
 ghost use Rattle.pg_index.specs.declared.heap_file.ReadError.TheVariants.{Failed, Memory};
 
 use pg_bytes::{PAGE, zero_bytes};
@@ -105,7 +105,7 @@ fn read_more<F: Files>(
 /// long comes before that its last block is cut, since only as much of it is read as shows it.
 pub fn check_whole(heap: &[u8]) -> Result<(), FileFault>
     ensures refused { IfErr result (λ fault. HasFileFault heap.now fault.cause fault.block) }
-    ensures whole { OnOk result (IsWhole heap.now) }
+    ensures whole { OnOk result (IsHeapFile heap.now) }
 {
     if heap.len() > MOST_BLOCKS * PAGE {
         return Err(FileFault {

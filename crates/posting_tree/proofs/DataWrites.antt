@@ -1,11 +1,9 @@
 -- The writes of a page of a posting tree, over a page without items.
-use Rattle.std.proofs.Common.{◌≡◌, ℕ, ◌+◌, ◌-◌, ◌*◌, ◌%◌, ◌≤◌, List, [], ◌++◌, length, refl, sym, ap, ◌∙◌, arith, length-append, Result, Ok, Err, subst}
+use Rattle.std.proofs.Common.{◌≡◌, ℕ, ◌+◌, ◌-◌, ◌%◌, ◌≤◌, List, [], ◌++◌, length, refl, sym, ap, ◌∙◌, arith, length-append, Result, Ok, Err, subst}
 use Rattle.std.specs.Prelude.{OnErr, OnOk}
 use Rattle.std.proofs.lemmas.List.{append_assoc, append-nil}
-use Rattle.pg_bytes.proofs.Growth.{placed-end}
 use Rattle.pg_bytes.proofs.ItemPage.{length-page_header, written-lower}
 use Rattle.pg_bytes.proofs.Writes.{length-number_bytes, length-zeros, written-middle, zeros-append}
-use Rattle.pg_bytes.specs.Image.{placed}
 use Rattle.pg_bytes.specs.Numbers.{number_bytes}
 use Rattle.pg_bytes.specs.PageLayout.{empty_page, page_header, page_size}
 use Rattle.pg_bytes.specs.Places.{written, zeros}
@@ -88,14 +86,3 @@ pub extends-result : {T E : Type 0} (result : Result T E) (old new page : List �
     → length page ≡ 8192 → Extends old new
 extends-result (Ok x) old new page ok err size = extends-page old new page ok size
 extends-result (Err e) old new page ok err size = subst (Extends old) (sym err) (extends-itself old)
-
-pub size-result : {T E : Type 0} (result : Result T E) (old new page : List ℕ) → OnOk result (new ≡ old ++ page) → length page ≡ 8192
-    → OnOk result (length new ≡ length old + 8192)
-size-result (Ok x) old new page ok size = ap length ok ∙ length-append old page ∙ ap (λ (n : ℕ). length old + n) size
-size-result (Err e) old new page ok size = tt
-
--- a page that was placed behind the last block
-pub placed-result : {T E : Type 0} (result : Result T E) (number : ℕ) (old new page : List ℕ) → number * page_size ≡ length old
-    → OnOk result (new ≡ placed number page old) → OnOk result (new ≡ old ++ page)
-placed-result (Ok x) number old new page blocks ok = ok ∙ placed-end number page old (sym blocks)
-placed-result (Err e) number old new page blocks ok = tt

@@ -6,6 +6,7 @@ use Rattle.std.proofs.lemmas.Bool.Decides.{nat_tests}
 use Rattle.std.proofs.lemmas.List.{append_assoc, append-nil, drop_at, take_at}
 use Rattle.pg_bytes.proofs.ItemPage.{length-page_header, lower_of-page_header, number_at-first, number_at-past}
 use Rattle.pg_bytes.proofs.Writes.{length-number_bytes, length-zeros}
+use Rattle.pg_bytes.specs.Blocks.{block_at, block_count}
 use Rattle.pg_bytes.specs.Numbers.{number_at, number_bytes}
 use Rattle.pg_bytes.specs.PageLayout.{lower_of, page_header, page_size}
 use Rattle.pg_bytes.specs.Places.{zeros}
@@ -22,7 +23,7 @@ use Rattle.posting_tree.specs.Building.{bytes_of}
 use Rattle.posting_tree.specs.Laws.{IsSeenAbove}
 use Rattle.posting_tree.specs.Levels.{AreAbove, AreLevel, Downlink, IsEmptyRoot, IsPage, IsRootOf, Kind, Node, Page, Tree, first_block, items_of, no_link, nodes_linked, nodes_of, nodes_of_level, to_say}
 use Rattle.posting_tree.specs.PostingTree.{AddsTree, IsPostingTree, IsReadAs, data_page, data_sight, inner_flags, inner_image, inner_kind, leaf_flags, leaf_kind, posting_item}
-use Rattle.posting_tree.specs.Reading.{StandIn, block_at, blocks_of}
+use Rattle.posting_tree.specs.Reading.{StandIn}
 use Rattle.posting_tree.specs.Reading.Sight.{SeenInner, SeenLeaf}
 use Rattle.posting_tree.specs.Segments.{AreAscending, AreSegmentsOf, HaveBlocks, IsPart, segment}
 use Rattle.posting_tree.specs.Special.{flags_of, maxoff_of, right_of, special_space}
@@ -217,9 +218,9 @@ stand-behind file front [] first is size blocks sized = tt
 stand-behind file front (node ∷ nodes) first is size blocks sized =
     let at : node.block ≡ first = cc in
     let rest : map (λ (n : Node). n.block) nodes ≡ range_with_len (first + 1) (length nodes) = cc in
-    let here : take page_size (drop (node.block * page_size) file) ≡ node.bytes =
-    ap (λ (f : List ℕ). take page_size (drop (node.block * page_size) f)) is
-    ∙ ap (take page_size) (drop_at front (node.bytes ++ bytes_of nodes) (node.block * page_size) (size ∙ ap (λ (n : ℕ). n * 8192) (sym at)))
+    let here : take page_size (drop (page_size * node.block) file) ≡ node.bytes =
+    ap (λ (f : List ℕ). take page_size (drop (page_size * node.block) f)) is
+    ∙ ap (take page_size) (drop_at front (node.bytes ++ bytes_of nodes) (page_size * node.block) (omega (arith, size, at)))
     ∙ take_at node.bytes (bytes_of nodes) page_size sized.0 in (
       here,
       stand-behind file (front ++ node.bytes) nodes (first + 1) (is ∙ sym (append_assoc front node.bytes (bytes_of nodes)))
@@ -344,8 +345,8 @@ nodes-sized tree ptrs is some =
 
 pub standing-is-read : (file : List ℕ) (tree : Tree (List RowPtr) RowPtr) (root : ℕ) (ptrs : List RowPtr) → IsPostingTree tree ptrs → IsRootOf tree root
     → StandIn file (nodes_of leaf_kind inner_kind tree)
-    → AllByRecursion (λ node. node.block < blocks_of file) (nodes_of leaf_kind inner_kind tree)
-    → length (nodes_of leaf_kind inner_kind tree) ≤ blocks_of file → blocks_of file ≤ no_link → 0 < length ptrs → AreAscending ptrs → HaveBlocks ptrs
+    → AllByRecursion (λ node. node.block < block_count file) (nodes_of leaf_kind inner_kind tree)
+    → length (nodes_of leaf_kind inner_kind tree) ≤ block_count file → block_count file ≤ no_link → 0 < length ptrs → AreAscending ptrs → HaveBlocks ptrs
     → IsReadAs file root ptrs
 standing-is-read file tree root ptrs is root_is stand inside few linked some ascending have =
     let level : AreLevel leaf_kind tree.leaves = leaf-level tree ptrs is some in
@@ -376,8 +377,8 @@ standing-is-read file tree root ptrs is root_is stand inside few linked some asc
 -- ---- a tree that was put
 
 -- how many blocks there are more
-pub added-count : (old new : List ℕ) (root : ℕ) (ptrs : List RowPtr) (t : AddsTree old new root ptrs) → blocks_of old * 8192 ≡ length old → 0 < length ptrs
-    → blocks_of new ≡ blocks_of old + length (nodes_of leaf_kind inner_kind t.tree)
+pub added-count : (old new : List ℕ) (root : ℕ) (ptrs : List RowPtr) (t : AddsTree old new root ptrs) → block_count old * 8192 ≡ length old → 0 < length ptrs
+    → block_count new ≡ block_count old + length (nodes_of leaf_kind inner_kind t.tree)
 added-count old new root ptrs t pages some =
     let nodes : List Node = nodes_of leaf_kind inner_kind t.tree in
     let bytes = length-bytes nodes (nodes-sized t.tree ptrs t.is_tree some) in
@@ -385,18 +386,18 @@ added-count old new root ptrs t pages some =
     omega arith
 
 -- its pages stand in the new file, on the blocks behind the old ones
-pub added-stands : (old new : List ℕ) (root : ℕ) (ptrs : List RowPtr) (t : AddsTree old new root ptrs) → blocks_of old * 8192 ≡ length old → 0 < length ptrs
+pub added-stands : (old new : List ℕ) (root : ℕ) (ptrs : List RowPtr) (t : AddsTree old new root ptrs) → block_count old * 8192 ≡ length old → 0 < length ptrs
     → StandIn new (nodes_of leaf_kind inner_kind t.tree)
 added-stands old new root ptrs t pages some =
-    stand-behind new old (nodes_of leaf_kind inner_kind t.tree) (blocks_of old) t.bytes (sym pages) t.blocks (nodes-sized t.tree ptrs t.is_tree some)
+    stand-behind new old (nodes_of leaf_kind inner_kind t.tree) (block_count old) t.bytes (sym pages) t.blocks (nodes-sized t.tree ptrs t.is_tree some)
 
-pub added-inside : (old new : List ℕ) (root : ℕ) (ptrs : List RowPtr) (t : AddsTree old new root ptrs) → blocks_of old * 8192 ≡ length old → 0 < length ptrs
-    → AllByRecursion (λ node. node.block < blocks_of new) (nodes_of leaf_kind inner_kind t.tree)
+pub added-inside : (old new : List ℕ) (root : ℕ) (ptrs : List RowPtr) (t : AddsTree old new root ptrs) → block_count old * 8192 ≡ length old → 0 < length ptrs
+    → AllByRecursion (λ node. node.block < block_count new) (nodes_of leaf_kind inner_kind t.tree)
 added-inside old new root ptrs t pages some =
     let count = added-count old new root ptrs t pages some in
-    inside-range (nodes_of leaf_kind inner_kind t.tree) (blocks_of old) (blocks_of new) t.blocks (omega arith)
+    inside-range (nodes_of leaf_kind inner_kind t.tree) (block_count old) (block_count new) t.blocks (omega arith)
 
-pub added-is-read : (old new : List ℕ) (root : ℕ) (ptrs : List RowPtr) → AddsTree old new root ptrs → blocks_of old * 8192 ≡ length old
+pub added-is-read : (old new : List ℕ) (root : ℕ) (ptrs : List RowPtr) → AddsTree old new root ptrs → block_count old * 8192 ≡ length old
     → length new < 2 ^ 44 → 0 < length ptrs → AreAscending ptrs → HaveBlocks ptrs → IsReadAs new root ptrs
 added-is-read old new root ptrs t pages small some ascending have =
     let count = added-count old new root ptrs t pages some in

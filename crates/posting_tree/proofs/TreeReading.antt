@@ -4,10 +4,11 @@ use Rattle.std.specs.Prelude.{Option, Some, if◌then◌else◌, nat_eq, nat_lt}
 use Rattle.std.specs.List.{AllByRecursion, flat_map}
 use Rattle.std.specs.Option.{option_and_then, option_map}
 use Rattle.std.proofs.lemmas.Bool.Decides.{nat_tests}
+use Rattle.pg_bytes.specs.Blocks.{block_at, block_count}
 use Rattle.posting_tree.proofs.Lists.{all-back, all-front}
 use Rattle.posting_tree.specs.Laws.{IsSeenAbove, IsSeenIn}
 use Rattle.posting_tree.specs.Levels.{AreAbove, AreLevel, Downlink, IsRootOf, IsTree, Kind, Node, Page, Tree, first_block, items_of, no_link, nodes_linked, nodes_of_level, said, to_say, top_of}
-use Rattle.posting_tree.specs.Reading.{Sight, StandIn, along, block_at, blocks_of, contents_below, leftmost, sight_at}
+use Rattle.posting_tree.specs.Reading.{Sight, StandIn, along, contents_below, leftmost, sight_at}
 use Rattle.posting_tree.specs.Reading.Sight.{SeenInner, SeenLeaf, SeenOther}
 
 lt-true : (a b : ℕ) → a < b → nat_lt a b ≡ true
@@ -20,10 +21,10 @@ eq-true : (a : ℕ) → nat_eq a a ≡ true
 eq-true a = grind (arith, nat_tests)
 
 -- a page that stands in a file is seen there
-pub seen-at : {Content : Type 0} (sight : List ℕ → Sight Content) (file : List ℕ) (node : Node) (s : Sight Content) → node.block < blocks_of file
+pub seen-at : {Content : Type 0} (sight : List ℕ → Sight Content) (file : List ℕ) (node : Node) (s : Sight Content) → node.block < block_count file
     → block_at node.block file ≡ node.bytes → sight node.bytes ≡ s → sight_at sight file node.block ≡ s
 seen-at {Content = Content} sight file node s inside stands sees =
-    ap (λ (t : Bool). if t then sight (block_at node.block file) else SeenOther) (lt-true node.block (blocks_of file) inside)
+    ap (λ (t : Bool). if t then sight (block_at node.block file) else SeenOther) (lt-true node.block (block_count file) inside)
     ∙ ap sight stands ∙ sees
 
 -- ---- one step
@@ -57,9 +58,9 @@ along-more {Content = Content} seen most block right content contents e below re
 
 -- each leaf leads to the next
 along-leaves : {Leaf Key Content : Type 0} (sight : List ℕ → Sight Content) (content : List Leaf → Content) (leaf : Kind Leaf Key) (file : List ℕ)
-    (page : Page Leaf) (pages : List (Page Leaf)) (most : ℕ) → suc (length pages) ≤ most → blocks_of file ≤ no_link
+    (page : Page Leaf) (pages : List (Page Leaf)) (most : ℕ) → suc (length pages) ≤ most → block_count file ≤ no_link
     → StandIn file (nodes_linked leaf no_link (page ∷ pages))
-    → AllByRecursion (λ node. node.block < blocks_of file) (nodes_linked leaf no_link (page ∷ pages))
+    → AllByRecursion (λ node. node.block < block_count file) (nodes_linked leaf no_link (page ∷ pages))
     → AllByRecursion (λ p. (right : ℕ) → right ≤ no_link → sight (leaf.image right p.items) ≡ SeenLeaf right (content p.items)) (page ∷ pages)
     → along (sight_at sight file) most page.block ≡ Some (content page.items ∷ map (λ p. content p.items) pages)
 along-leaves sight content leaf file page pages zero short linked stand inside sees = absurd (omega arith)
@@ -80,17 +81,17 @@ level-some kind page [] level = level.some
 level-some kind page (next ∷ pages) level = level.0.some
 
 -- a right link is a block or none
-first-linked : {Item Key : Type 0} (kind : Kind Item Key) (file : List ℕ) (pages : List (Page Item)) → blocks_of file ≤ no_link
-    → AllByRecursion (λ node. node.block < blocks_of file) (nodes_of_level kind pages) → first_block no_link pages ≤ no_link
+first-linked : {Item Key : Type 0} (kind : Kind Item Key) (file : List ℕ) (pages : List (Page Item)) → block_count file ≤ no_link
+    → AllByRecursion (λ node. node.block < block_count file) (nodes_of_level kind pages) → first_block no_link pages ≤ no_link
 first-linked kind file [] linked inside = omega arith
 first-linked kind file (page ∷ pages) linked inside = let here = inside.0 in omega arith
 
 -- what stands first above leads to what stands first below
 down : {Key Content : Type 0} (sight : List ℕ → Sight Content) (inner : Kind (Downlink Key) Key) (file : List ℕ) (above : List (List (Page (Downlink Key))))
     (first : ℕ × Option Key) (rest : List (ℕ × Option Key)) (blocks : List ℕ) (root most : ℕ) → AreAbove inner (first ∷ rest) above
-    → top_of (first.0 ∷ blocks) above ≡ root ∷ [] → first.0 < no_link → blocks_of file ≤ no_link
+    → top_of (first.0 ∷ blocks) above ≡ root ∷ [] → first.0 < no_link → block_count file ≤ no_link
     → StandIn file (flat_map (nodes_of_level inner) above)
-    → AllByRecursion (λ node. node.block < blocks_of file) (flat_map (nodes_of_level inner) above)
+    → AllByRecursion (λ node. node.block < block_count file) (flat_map (nodes_of_level inner) above)
     → AllByRecursion (AllByRecursion (IsSeenAbove sight inner)) above
     → leftmost (sight_at sight file) (length above + most) root ≡ leftmost (sight_at sight file) most first.0
 down sight inner file [] first rest blocks root most a top block linked stand inside sees =
@@ -100,16 +101,16 @@ down sight inner file [] first rest blocks root most a top block linked stand in
 down sight inner file ([] ∷ above) first rest blocks root most a top block linked stand inside sees = absurd a.2.0
 down sight inner file ((page ∷ pages) ∷ above) first rest blocks root most a top block linked stand inside sees =
     by_items page.items refl (level-some inner page pages a.2.0) a.1 sees.0.0 stand.0 inside.0
-    (first-linked inner file pages linked (all-front (λ node. node.block < blocks_of file) (nodes_of_level inner pages) (flat_map (nodes_of_level inner) above) inside.1))
+    (first-linked inner file pages linked (all-front (λ node. node.block < block_count file) (nodes_of_level inner pages) (flat_map (nodes_of_level inner) above) inside.1))
     (down sight inner file above (to_say inner page) (map (to_say inner) pages) (map (λ p. p.block) pages) root (suc most) a.2.1 top (let here = inside.0 in omega arith) linked
     (all-back (λ node. block_at node.block file ≡ node.bytes) (nodes_of_level inner (page ∷ pages)) (flat_map (nodes_of_level inner) above) stand)
-    (all-back (λ node. node.block < blocks_of file) (nodes_of_level inner (page ∷ pages)) (flat_map (nodes_of_level inner) above) inside) sees.1)
+    (all-back (λ node. node.block < block_count file) (nodes_of_level inner (page ∷ pages)) (flat_map (nodes_of_level inner) above) inside) sees.1)
   where
     right : ℕ
     right = first_block no_link pages
 
     by_items : (items : List (Downlink _)) → page.items ≡ items → 0 < length page.items → map said (page.items ++ items_of pages) ≡ first ∷ rest
-        → IsSeenAbove sight inner page → block_at page.block file ≡ inner.image right page.items → page.block < blocks_of file → right ≤ no_link
+        → IsSeenAbove sight inner page → block_at page.block file ≡ inner.image right page.items → page.block < block_count file → right ≤ no_link
         → leftmost (sight_at sight file) (length above + suc most) root ≡ leftmost (sight_at sight file) (suc most) page.block
         → leftmost (sight_at sight file) (suc (length above) + most) root ≡ leftmost (sight_at sight file) most first.0
     by_items [] is some names sees_page stands within low deeper = let e = ap length is in absurd (omega arith)
@@ -142,23 +143,23 @@ read-levels sight content leaf inner file [] above root a top seen = absurd (no-
 read-levels sight content leaf inner file (page ∷ pages) above root a top seen =
     let low = seen.levels in
     let short = seen.leaves in
-    let more : ℕ = blocks_of file - length above - 1 in
-    let count : blocks_of file ≡ length above + suc more = omega arith in
+    let more : ℕ = block_count file - length above - 1 in
+    let count : block_count file ≡ length above + suc more = omega arith in
     let nodes : List Node = nodes_of_level leaf (page ∷ pages) in
     let others : List Node = flat_map (nodes_of_level inner) above in
     let stand = all-front (λ node. block_at node.block file ≡ node.bytes) nodes others seen.stand in
-    let within = all-front (λ node. node.block < blocks_of file) nodes others seen.inside in
+    let within = all-front (λ node. node.block < block_count file) nodes others seen.inside in
     let here = seen-at sight file (record { block = page.block; bytes = leaf.image (first_block no_link pages) page.items })
     (SeenLeaf (first_block no_link pages) (content page.items)) within.0 stand.0
     (seen.seen_leaves.0 (first_block no_link pages) (first-linked leaf file pages seen.linked within.1)) in
-    let first : leftmost (sight_at sight file) (blocks_of file) root ≡ Some page.block =
+    let first : leftmost (sight_at sight file) (block_count file) root ≡ Some page.block =
     ap (λ (n : ℕ). leftmost (sight_at sight file) n root) count
     ∙ down sight inner file above (to_say leaf page) (map (to_say leaf) pages) (map (λ p. p.block) pages) root (suc more) a top (let inside = within.0 in let small = seen.linked in omega arith) seen.linked
     (all-back (λ node. block_at node.block file ≡ node.bytes) nodes others seen.stand)
-    (all-back (λ node. node.block < blocks_of file) nodes others seen.inside) seen.seen_above
+    (all-back (λ node. node.block < block_count file) nodes others seen.inside) seen.seen_above
     ∙ leftmost-leaf (sight_at sight file) more page.block (first_block no_link pages) (content page.items) here in
-    both (along (sight_at sight file) (blocks_of file)) (leftmost (sight_at sight file) (blocks_of file) root) page.block _ first
-    (along-leaves sight content leaf file page pages (blocks_of file) short seen.linked stand within seen.seen_leaves)
+    both (along (sight_at sight file) (block_count file)) (leftmost (sight_at sight file) (block_count file) root) page.block _ first
+    (along-leaves sight content leaf file page pages (block_count file) short seen.linked stand within seen.seen_leaves)
 
 pub trees-are-read : {Leaf Key Content : Type 0} (sight : List ℕ → Sight Content) (content : List Leaf → Content) (leaf : Kind Leaf Key)
     (inner : Kind (Downlink Key) Key) (file : List ℕ) (tree : Tree Leaf Key) (root : ℕ) → IsTree leaf inner tree → IsRootOf tree root

@@ -3,12 +3,12 @@ use Rattle.std.proofs.Common.{◌≡◌, ℕ, zero, suc, ◌+◌, ◌*◌, ◌<�
 use Rattle.std.specs.Prelude.{Option, Some}
 use Rattle.std.specs.List.{AllByRecursion, flat_map, range_with_len}
 use Rattle.std.proofs.lemmas.List.{append_assoc, append-nil, length-map, map-append}
+use Rattle.pg_bytes.specs.Blocks.{block_count}
 use Rattle.pg_bytes.specs.declared.row_ptr.RowPtr.{RowPtr}
 use Rattle.posting_tree.proofs.Lists.{flat-append}
 use Rattle.posting_tree.specs.Building.{LeafLevelPut, LevelPut, TreePut, bytes_of, links_from, told_from}
 use Rattle.posting_tree.specs.Levels.{AreAbove, Kind, Node, Page, nodes_linked, nodes_of_level, said, to_say, top_of}
 use Rattle.posting_tree.specs.PostingTree.{AddsTree, inner_kind, leaf_kind}
-use Rattle.posting_tree.specs.Reading.{blocks_of}
 
 -- ---- consecutive blocks
 
@@ -67,7 +67,7 @@ tree-leaves old new first keys ptrs l at =
     let same : nodes ++ [] ≡ nodes = append-nil nodes in
     let blocks = level-blocks leaf_kind put.pages first keys put.told in
     let count = blocks.1 in
-    let number : blocks_of old ≡ first = omega arith in
+    let number : block_count old ≡ first = omega arith in
     record {
       leaves = put.pages;
       middle = [];
@@ -119,10 +119,10 @@ tree-level old now next first first' keys keys' ptrs t put several at =
           ap (map (λ (node : Node). node.block)) joined
           ∙ map-append (λ (node : Node). node.block) before nodes
           ∙ ap (λ (b : List ℕ). b ++ map (λ (node : Node). node.block) nodes) t.blocks
-          ∙ ap (λ (b : List ℕ). range_with_len (blocks_of old) (length before) ++ b) blocks.0
-          ∙ ap (λ (n : ℕ). range_with_len (blocks_of old) (length before) ++ range_with_len n (length keys')) (at ∙ was)
-          ∙ sym (range-append (blocks_of old) (length before) (length keys'))
-          ∙ ap (range_with_len (blocks_of old)) (let e : length before + length keys' ≡ length (leaf_nodes ++ flat_map (nodes_of_level inner_kind) (t.middle ++ put.pages ∷ [])) = omega arith in e);
+          ∙ ap (λ (b : List ℕ). range_with_len (block_count old) (length before) ++ b) blocks.0
+          ∙ ap (λ (n : ℕ). range_with_len (block_count old) (length before) ++ range_with_len n (length keys')) (at ∙ was)
+          ∙ sym (range-append (block_count old) (length before) (length keys'))
+          ∙ ap (range_with_len (block_count old)) (let e : length before + length keys' ≡ length (leaf_nodes ++ flat_map (nodes_of_level inner_kind) (t.middle ++ put.pages ∷ [])) = omega arith in e);
       next = omega arith;
       bytes =
           put.bytes ∙ ap (λ (b : List ℕ). b ++ bytes_of nodes) t.bytes ∙ append_assoc old (bytes_of before) (bytes_of nodes)

@@ -1,10 +1,10 @@
 -- What the building of a posting tree keeps: levels of pages on consecutive blocks, from the leaves up.
 use Rattle.std.specs.Prelude.{◌≡◌, ℕ, ◌+◌, ◌*◌, ◌<◌, ◌≤◌, Option, Some, List, [], ◌∷◌, ◌++◌, length, map}
 use Rattle.std.specs.List.{AllByRecursion, flat_map, range_with_len}
+use Rattle.pg_bytes.specs.Blocks.{block_count}
 use Rattle.pg_bytes.specs.declared.row_ptr.RowPtr.{RowPtr}
 use Rattle.posting_tree.specs.Levels.{AreAbove, AreLevel, Downlink, IsPage, Kind, Node, Page, fill, greatest, items_of, least_fill, nodes_linked, nodes_of_level, to_say, top_of}
 use Rattle.posting_tree.specs.PostingTree.{inner_kind, leaf_kind}
-use Rattle.posting_tree.specs.Reading.{blocks_of}
 use Rattle.posting_tree.specs.Segments.{IsPart, segment}
 
 -- the bytes of pages, one behind the other
@@ -84,9 +84,9 @@ pub record TreePut (old new : List ℕ) (first : ℕ) (keys ptrs : List RowPtr) 
   pub top : (more : List (List (Page (Downlink RowPtr)))) → top_of (map (λ page. page.block) leaves) (middle ++ more)
       ≡ top_of (range_with_len first (length keys)) more
   pub blocks : map (λ node. node.block) (nodes_of_level leaf_kind leaves ++ flat_map (nodes_of_level inner_kind) middle)
-      ≡ range_with_len (blocks_of old) (length (nodes_of_level leaf_kind leaves ++ flat_map (nodes_of_level inner_kind) middle))
+      ≡ range_with_len (block_count old) (length (nodes_of_level leaf_kind leaves ++ flat_map (nodes_of_level inner_kind) middle))
   pub next : first + length keys
-      ≡ blocks_of old + length (nodes_of_level leaf_kind leaves ++ flat_map (nodes_of_level inner_kind) middle)
+      ≡ block_count old + length (nodes_of_level leaf_kind leaves ++ flat_map (nodes_of_level inner_kind) middle)
   pub bytes : new ≡ old ++ bytes_of (nodes_of_level leaf_kind leaves ++ flat_map (nodes_of_level inner_kind) middle)
 
 -- a list is another with one pointer more, which was asked for

@@ -1,11 +1,12 @@
 -- What holds of segments and of trees of pages.
 use Rattle.std.specs.Prelude.{◌≡◌, ◌↔◌, ℕ, ◌<◌, ◌≤◌, suc, List, ◌∷◌, length}
 use Rattle.std.specs.List.{AllByRecursion}
+use Rattle.pg_bytes.specs.Blocks.{block_count}
 use Rattle.pg_bytes.specs.Pointers.{IsBefore}
 use Rattle.pg_bytes.specs.declared.row_ptr.RowPtr.{RowPtr}
 use Rattle.posting_tree.specs.Levels.{Downlink, Kind, Page, Tree, no_link, nodes_of}
 use Rattle.posting_tree.specs.PostingTree.{IsReadAs}
-use Rattle.posting_tree.specs.Reading.{Sight, StandIn, blocks_of}
+use Rattle.posting_tree.specs.Reading.{Sight, StandIn}
 use Rattle.posting_tree.specs.Reading.Sight.{SeenInner, SeenLeaf}
 use Rattle.posting_tree.specs.Segments.{AreAscending, AreSegmentsOf, HaveBlocks, IsStorable, number_of, segment}
 
@@ -43,10 +44,10 @@ IsSeenAbove {Key = Key} sight inner page =
 pub record IsSeenIn {Leaf Key Content : Type 0} (sight : List ℕ → Sight Content) (content : List Leaf → Content)
     (leaf : Kind Leaf Key) (inner : Kind (Downlink Key) Key) (file : List ℕ) (tree : Tree Leaf Key) : Type 0 where
   pub stand : StandIn file (nodes_of leaf inner tree)
-  pub inside : AllByRecursion (λ node. node.block < blocks_of file) (nodes_of leaf inner tree)
-  pub linked : blocks_of file ≤ no_link
-  pub leaves : length tree.leaves ≤ blocks_of file
-  pub levels : suc (length tree.above) ≤ blocks_of file
+  pub inside : AllByRecursion (λ node. node.block < block_count file) (nodes_of leaf inner tree)
+  pub linked : block_count file ≤ no_link
+  pub leaves : length tree.leaves ≤ block_count file
+  pub levels : suc (length tree.above) ≤ block_count file
   pub seen_leaves : AllByRecursion
       (λ page. (right : ℕ) → right ≤ no_link → sight (leaf.image right page.items) ≡ SeenLeaf right (content page.items))
       tree.leaves

@@ -2,13 +2,14 @@
 use Rattle.std.specs.Prelude.{◌≡◌, ℕ, ◌+◌, ◌-◌, ◌*◌, ◌/◌, ◌%◌, ◌^◌, if◌then◌else◌, nat_eq, Some, None, List, ◌++◌, length, map, slice_range}
 use Rattle.std.specs.List.{AllByRecursion, AllZip, flat_map, last_or, range_with_len}
 use Rattle.std.specs.Option.{unwrap_or}
+use Rattle.pg_bytes.specs.Blocks.{block_count}
 use Rattle.pg_bytes.specs.Numbers.{number_at, number_bytes}
 use Rattle.pg_bytes.specs.PageLayout.{lower_of, page_header, page_size}
 use Rattle.pg_bytes.specs.Places.{zeros}
 use Rattle.pg_bytes.specs.Pointers.{row_pointer_bytes}
 use Rattle.pg_bytes.specs.declared.row_ptr.RowPtr.{RowPtr}
 use Rattle.posting_tree.specs.Levels.{Downlink, IsRootOf, IsTree, Kind, Tree, items_of, no_link, nodes_of}
-use Rattle.posting_tree.specs.Reading.{Sight, blocks_of, contents_below}
+use Rattle.posting_tree.specs.Reading.{Sight, contents_below}
 use Rattle.posting_tree.specs.Reading.Sight.{SeenInner, SeenLeaf, SeenOther}
 use Rattle.posting_tree.specs.Segments.{AreAscending, AreSegmentsOf, IsPart, segment}
 use Rattle.posting_tree.specs.Special.{compressed_flag, data_flag, flags_of, leaf_flag, maxoff_of, right_of, special_space, special_start}
@@ -99,7 +100,7 @@ pub record AddsTree (old new : List ℕ) (root : ℕ) (ptrs : List RowPtr) : Typ
   pub is_tree : IsPostingTree tree ptrs
   pub root_is : IsRootOf tree root
   pub blocks : map (λ node. node.block) (nodes_of leaf_kind inner_kind tree)
-      ≡ range_with_len (blocks_of old) (length (nodes_of leaf_kind inner_kind tree))
+      ≡ range_with_len (block_count old) (length (nodes_of leaf_kind inner_kind tree))
   pub bytes : new ≡ old ++ flat_map (λ node. node.bytes) (nodes_of leaf_kind inner_kind tree)
 
 -- a file that has whole blocks behind its old ones, which stay as they were

@@ -1,6 +1,5 @@
 ghost use Rattle.std.specs.Prelude.{◌≡◌, ◌+◌, ◌*◌, ◌^◌, ◌<◌, ◌≤◌, ◌++◌, if◌then◌else◌, length, nat_eq, IfOk, OnErr, OnOk};
 ghost use Rattle.pg_bytes.specs.PageLayout.{page_size};
-ghost use Rattle.pg_bytes.specs.Pointers.{row_pointer_bytes};
 ghost use Rattle.posting_tree.specs.Levels.{no_link};
 ghost use Rattle.posting_tree.specs.PostingTree.{Extends, data_page, zero_pointer};
 ghost use Rattle.posting_tree.specs.Special.{special_space};
@@ -29,9 +28,6 @@ const SPECIAL_PLACE: usize = PAGE - SPECIAL;
 
 const SPECIAL: usize = 8;
 
-// The bytes of a row pointer.
-const POINTER: usize = 6;
-
 /// What a page of a posting tree says besides its content: its flags, how many items a page above
 /// the leaves has, its right link, and its greatest pointer.
 #[derive(Clone, Copy)]
@@ -53,7 +49,7 @@ impl DataPage {
     {
         let mut page = PageBuf::new(alloc, SPECIAL as u16)?;
         page.put_u16(PD_LOWER, (CONTENT + content.len()) as u16);
-        page.put_slice(PAGE_HEADER, &pointer_bytes(self.bound()));
+        page.put_slice(PAGE_HEADER, &self.bound().bytes());
         page.put_slice(CONTENT, content);
         page.put_slice(SPECIAL_PLACE, &self.special());
         Ok(page)
@@ -104,30 +100,7 @@ impl DataPage {
         ensures extends { Extends image.old image.new }
     {
         let page = self.page(alloc, content)?;
-        append(image, &page)
+        let _bytes = page.bytes();
+        image.append(&page)
     }
-}
-
-// Puts a page behind the blocks of an image. An error means that no memory was left, and then the
-// image is as before.
-fn append(image: &mut IndexImage, page: &PageBuf) -> Result<(), AllocError>
-    requires { length image.old < 2 ^ 31 * page_size }
-    ensures ok { OnOk result (image.new ≡ image.old ++ page.now) }
-    ensures size { OnOk result (length image.new ≡ length image.old + page_size) }
-    ensures err { OnErr result (image.new ≡ image.old) }
-    ensures extends { Extends image.old image.new }
-{
-    let number = image.blocks();
-    let _bytes = page.bytes();
-    image.place(number, page)
-}
-
-// A row pointer's six bytes.
-#[tactic(auto, unfolding(pg_bytes::specs::Numbers::number_bytes, pg_bytes::specs::Places::written, pg_bytes::specs::Pointers::row_pointer_bytes))]
-fn pointer_bytes(ptr: RowPtr) -> [u8; 6]
-    ensures { result ≡ row_pointer_bytes ptr }
-{
-    let mut bytes = [0u8; POINTER];
-    ptr.put(&mut bytes, 0);
-    bytes
 }

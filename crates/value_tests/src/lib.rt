@@ -1,4 +1,5 @@
-//! Tests of `opclass`, `tuple_data`, `btree_item`, `gin_entry` and `posting_tree`.
+//! Tests of `opclass`, `tuple_data`, `btree_item`, `brin_summary`, `gin_entry` and
+//! `posting_tree`.
 //!
 //! A crate with tests is proved a second time with them, so they stand apart from what they try.
 //! There is no other code here.
@@ -11,6 +12,8 @@ mod entries;
 mod items;
 #[cfg(test)]
 mod postings;
+#[cfg(test)]
+mod ranges;
 #[cfg(test)]
 mod tuples;
 #[cfg(test)]

@@ -1,12 +1,13 @@
 -- The pages of a level as they come into a file, and the levels above them.
 use Rattle.std.specs.Prelude.{◌≡◌, ◌≢◌, ℕ, suc, ◌+◌, ◌*◌, ◌%◌, ◌≤◌, nat_lt, if◌then◌else◌, Some, List, [], ◌∷◌, ◌++◌, length, map}
 use Rattle.std.specs.List.{AllByRecursion, AllZip, flat_map}
+use Rattle.pg_bytes.specs.Blocks.{block_at, block_count}
 use Rattle.pg_bytes.specs.PageLayout.{page_size}
 use Rattle.pg_bytes.specs.ItemPage.{lower_at, space_taken}
 use Rattle.opclass.specs.declared.types.ColType.{ColType}
 use Rattle.gin_entry.specs.declared.entry.Entry.{Entry}
 use Rattle.posting_tree.specs.Levels.{AreAbove, Downlink, Node, Page, greatest, no_link, nodes_of_level, said, to_say, top_of}
-use Rattle.posting_tree.specs.Reading.{StandIn, block_at, blocks_of}
+use Rattle.posting_tree.specs.Reading.{StandIn}
 use Rattle.posting_tree.specs.Special.{special_start}
 use Rattle.gin_file.specs.EntryTree.{Item, entry_page, inner_flags, inner_kind, item_kind, link_item}
 use Rattle.gin_pack.specs.Pass.Filling.{HasItems, HasPut, IsFilled, IsLevelOf}
@@ -57,14 +58,14 @@ pub record CanPlace (above : Level) (full : FullPage) : Type 0 where
 abbrev pub PlacesPage : List ℕ → List ℕ → FullPage → ℕ → Type 0
 PlacesPage old new full end =
     (kind : ColType) (flags : ℕ) (items : List Item) → HasItems kind flags items full
-    → new ≡ old ++ entry_page flags (link_behind (blocks_of old) end) (map (λ item. item.tuple) items)
+    → new ≡ old ++ entry_page flags (link_behind (block_count old) end) (map (λ item. item.tuple) items)
 
 -- and the level above has got what leads to it
 abbrev pub LeadsToPage : List ℕ → FullPage → Level → Level → Type 0
 LeadsToPage file full old new =
     (kind : ColType) (flags : ℕ) (items : List Item) (entry : Entry) (links : List Item)
     → HasItems kind flags items full → greatest (item_kind flags) items ≡ Some entry → HasPut kind inner_flags links old
-    → IsLevelOf kind inner_flags (links ++ leads_to kind (blocks_of file) entry ∷ []) new
+    → IsLevelOf kind inner_flags (links ++ leads_to kind (block_count file) entry ∷ []) new
 
 -- ---- a level and those above
 
@@ -86,9 +87,9 @@ pub record ArePlaceable (file : List ℕ) (pages : List FullPage) : Type 0 where
 pub record ArePlaced (kind : ColType) (flags : ℕ) (cut : List (List Item)) (old new : List ℕ) (above : Level) : Type 0 where
   pub whole : length old % page_size ≡ 0
   pub links : List (Downlink Entry)
-  pub said_are : map said links ≡ map (to_say (item_kind flags)) (numbered (blocks_of old) cut)
+  pub said_are : map said links ≡ map (to_say (item_kind flags)) (numbered (block_count old) cut)
   pub level : IsLevelOf kind inner_flags (map (link_item kind) links) above
-  pub bytes : new ≡ old ++ flat_map (λ node. node.bytes) (nodes_of_level (item_kind flags) (numbered (blocks_of old) cut))
+  pub bytes : new ≡ old ++ flat_map (λ node. node.bytes) (nodes_of_level (item_kind flags) (numbered (block_count old) cut))
 
 -- a file's blocks but the root's, which is block 1, are as they were
 abbrev pub KeepsAllButRoot : List ℕ → List ℕ → Type 0

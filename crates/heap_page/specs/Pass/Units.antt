@@ -1,9 +1,10 @@
 -- The map that a pass over a page's items keeps: which of the page's units of eight bytes, its alignment, belong to an
 -- item that was asked before.
 use Rattle.std.specs.Prelude.{◌≡◌, ◌↔◌, ℕ, ◌+◌, ◌-◌, ◌%◌, ◌/◌, ◌<◌, ◌≤◌, Bool, true, List, Some, slice_get}
+use Rattle.pg_bytes.specs.Lines.{EndsInside, line_at}
 use Rattle.pg_bytes.specs.declared.line_ptr.LinePtr.{LinePtr}
 use Rattle.heap_page.specs.Layout.{alignment}
-use Rattle.heap_page.specs.Line.{IsNormal, line_at, EndsInside}
+use Rattle.heap_page.specs.Line.{IsNormal}
 
 -- an item has a part in a unit
 abbrev pub HasUnit : LinePtr → ℕ → Type 0

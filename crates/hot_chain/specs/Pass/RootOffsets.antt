@@ -1,7 +1,7 @@
 -- What the walks along a page's chains keep, from the greatest start down: at each item's place the first start that
 -- came by, which is its root offset (root_offsets of heap_get_root_tuples in pruneheap.c).
 use Rattle.std.specs.Prelude.{◌≡◌, ℕ, ◌+◌, ◌≤◌, List, Option, Some, None, length, slice_index_or}
-use Rattle.heap_page.specs.Line.{line_count}
+use Rattle.heap_page.specs.Line.{heap_line_count}
 use Rattle.hot_chain.specs.Chain.{Follows, HasMember}
 use Rattle.hot_chain.specs.Roots.{IsGreatestStart}
 
@@ -31,5 +31,5 @@ pub record AreGreatestFrom (page : List ℕ) (from : ℕ) (offsets : List (Optio
 
 -- each item of the page has its root offset
 pub record AreRootOffsets (page : List ℕ) (offsets : List (Option ℕ)) : Type 0 where
-  pub room : length offsets ≡ line_count page + 1
+  pub room : length offsets ≡ heap_line_count page + 1
   pub greatest : AreGreatestFrom page 1 offsets

@@ -1,7 +1,7 @@
 -- An index that stands in memory.
 use Rattle.std.specs.Prelude.{◌≡◌, ◌+◌, ◌≤◌, ⊤, ℕ, List, string_bytes}
+use Rattle.pg_bytes.specs.Blocks.{block_count}
 use Rattle.block_claim.specs.Legal.{IsLegal}
-use Rattle.build_leader.specs.Blocks.{block_count}
 use Rattle.build_leader.specs.Outcome.{Faulty, Duplicate, Indexed, RangeWide, IsIndexFile}
 use Rattle.build_leader.specs.declared.fault.LeadFault.TheVariants as lead
 use Rattle.shared_tape.specs.declared.stored.Record.{Record}

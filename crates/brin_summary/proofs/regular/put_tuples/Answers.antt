@@ -20,11 +20,11 @@ loop-left-preserved c =
     let inside = c.tuples_on_page.ensures.inside in
     let is = c.from-count.ensures in
     more-put c.args.kinds.now c.args.pages_per_range c.args.ranges.now c.args.sizes.now c.args.image.now c.loop-left.first c.loop-left.left.now
-    c.loop-left.sizes.now c.loop-left.image c.loop-left.invariant c.from-count.result c.in_ok-page.page c.append.new.image some
+    c.loop-left.sizes.now c.loop-left.image c.loop-left.invariant c.from-count.result c.in_ok-page.page c.append.new.self some
     (c.from-count.ensures ∙ c.tuples_on_page.ensures.count)
     (rw c.from-count.ensures c.tuples_on_page.ensures.room)
     (omega arith)
-    c.in_ok-page.ensures c.in_ok-append.ensures
+    c.in_ok-page.ensures c.in_ok-append.ensures.ok
 
 pub returns : goal.returns
 returns c =

@@ -21,7 +21,7 @@ append-requires c =
 
 pub loop-page-preserved : goal.loop-page-preserved
 loop-page-preserved c =
-    c.in_ok-append.ensures
+    c.in_ok-append.ensures.ok
     ∙ ap (λ l. l ++ c.in_ok-revmap_page.field-0) c.loop-page.invariant
     ∙ append_assoc c.args.image.now (revmap_of c.loop-page.page c.args.pointers.now) c.in_ok-revmap_page.field-0
     ∙ ap (λ l. c.args.image.now ++ (revmap_of c.loop-page.page c.args.pointers.now ++ l))

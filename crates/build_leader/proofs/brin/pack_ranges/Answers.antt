@@ -4,7 +4,7 @@ use Rattle.std.specs.List.{flat_map}
 use Rattle.brin_summary.specs.Answer.{IsTold, tuple_size, wide_range}
 use Rattle.brin_summary.specs.File.{brin_file}
 use Rattle.brin_summary.specs.Summary.{RangeSummary}
-use Rattle.build_leader.specs.declared.ranges.SummedRange.{SummedRange}
+use Rattle.brin_summary.specs.declared.ranges.SummedRange.{SummedRange}
 use Rattle.build_leader.specs.Ranges.{range_count, told_of}
 use Rattle.build_leader.specs.Tally.{AreOfColumns}
 use Rattle.build_leader.specs.Uniting.{HaveColumns, told_each}

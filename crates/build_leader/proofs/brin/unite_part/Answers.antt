@@ -1,6 +1,6 @@
 use Rattle.std.proofs.Common.{◌≡◌, ◌∷◌, ℕ, List, sym, subst}
 use Rattle.std.specs.Vec.Iter.{into_iter_items}
-use Rattle.build_leader.specs.declared.ranges.SummedRange.{SummedRange}
+use Rattle.brin_summary.specs.declared.ranges.SummedRange.{SummedRange}
 use Rattle.build_leader.specs.Uniting.{HaveColumns}
 use Rattle.build_leader.proofs.Lists.{one_more}
 use Rattle.build_leader.proofs.Uniting.{next_columns, told_next}

@@ -4,7 +4,7 @@ use Rattle.std.specs.Vec.Iter.{into_iter_items}
 use Rattle.std.proofs.lemmas.List.Elements.{All-nil}
 use Rattle.std.proofs.lemmas.List.FromFn.{length-map-range_with_len}
 use Rattle.brin_summary.specs.Summary.{RangeSummary}
-use Rattle.build_leader.specs.declared.ranges.SummedRange.{SummedRange}
+use Rattle.brin_summary.specs.declared.ranges.SummedRange.{SummedRange}
 use Rattle.build_leader.specs.Ranges.{told_of}
 use Rattle.build_leader.specs.Tally.{AreOfColumns}
 use Rattle.build_leader.specs.Uniting.{AreTold, HaveColumns, told_each}

@@ -1,10 +1,10 @@
 use Rattle.std.proofs.Common.{◌≡◌, ◌+◌, ◌≤◌, min, [], ◌∷◌, ◌++◌, length, None, ap, subst, sym, ◌∙◌, arith}
 use Rattle.std.proofs.lemmas.Bool.{ltb-false, ltb-true}
 use Rattle.std.proofs.lemmas.Result.{on_ok_weaker}
+use Rattle.pg_bytes.specs.Blocks.{block_count}
 use Rattle.block_claim.specs.declared.claim.Claim.{Claim}
 use Rattle.block_claim.specs.Calls.{SeatState}
 use Rattle.block_claim.specs.Ramp.{claim_at}
-use Rattle.build_leader.specs.Blocks.{block_count}
 use Rattle.build_leader.proofs.Claiming.{between_none, between_some, claim_told, claimed_worker, none_told}
 use Rattle.build_leader.proofs.worker.scan_claim.Goals as goal
 

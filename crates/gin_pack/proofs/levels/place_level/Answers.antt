@@ -1,6 +1,6 @@
 use Rattle.std.proofs.Common.{◌+◌, ◌++◌, ◌∷◌, [], ℕ, length-append, refl, sym, ap, ◌∙◌, subst, arith, add-one}
 use Rattle.std.proofs.lemmas.List.{length-set}
-use Rattle.posting_tree.specs.Reading.{blocks_of}
+use Rattle.pg_bytes.specs.Blocks.{block_count}
 use Rattle.gin_pack.proofs.Placements.{AreUnderWay, all-placed, can_place, have-some, here-at, left-behind, length-zip, none-placed, page-more}
 use Rattle.gin_pack.proofs.levels.place_level.Goals as goal
 
@@ -46,7 +46,7 @@ loop-at-preserved c =
           (have-some kind flags full last _ cut.have cut.filled (cut.some (omega arith)))
           (here-at c.args.pages.items c.loop-at.pages.items c.loop-at.at c.index_mut.result.now c.index_mut.ensures.value (omega arith) c.loop-at.invariant.rest)
           (omega arith)
-          (c.loop-at.invariant.end_is ∙ ap (λ (n : ℕ). blocks_of c.args.image.now + n) (sym even))
+          (c.loop-at.invariant.end_is ∙ ap (λ (n : ℕ). block_count c.args.image.now + n) (sym even))
           c.in_ok-place_page.ensures.page c.in_ok-place_page.ensures.link
           (c.loop-at.invariant.way kind flags full last cut));
     }

@@ -11,7 +11,7 @@ put-requires c =
 
 pub returns-clause-page : goal.returns-clause-page
 returns-clause-page c =
-    page-placed c.blocks-block.result c.args.end c.args.image.now _ _ c.args.full.now c.blocks-block.ensures c.in_ok-place.ensures.ok c.link.ensures
+    page-placed c.blocks-block.result c.args.end c.args.image.now _ _ c.args.full.now c.blocks-block.ensures c.in_ok-append.ensures.ok c.link.ensures
 
 pub returns-clause-link : goal.returns-clause-link
 returns-clause-link c =

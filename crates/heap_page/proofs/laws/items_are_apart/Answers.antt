@@ -1,8 +1,9 @@
 use Rattle.std.proofs.Common.{ℕ, ◌<◌, List, inl, inr, arith}
 use Rattle.std.proofs.lemmas.Bool.{cases_lt}
+use Rattle.pg_bytes.specs.Lines.{line_at}
 use Rattle.heap_page.proofs.Sound.{line-not-new, sound-item}
 use Rattle.heap_page.specs.Fault.{IsSoundPage}
-use Rattle.heap_page.specs.Line.{IsNormal, ShareByte, line_at}
+use Rattle.heap_page.specs.Line.{IsNormal, ShareByte}
 use Rattle.heap_page.specs.declared.fault.PageCause.TheVariants.{BadLine}
 use Rattle.heap_page.proofs.laws.items_are_apart.Goals as goal
 

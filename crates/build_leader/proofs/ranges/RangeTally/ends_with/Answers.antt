@@ -1,5 +1,5 @@
 use Rattle.std.proofs.Common.{◌≡◌, ◌-◌, List, Some, length, slice_get, ap, ◌∙◌}
-use Rattle.build_leader.specs.declared.ranges.SummedRange.{SummedRange}
+use Rattle.brin_summary.specs.declared.ranges.SummedRange.{SummedRange}
 use Rattle.build_leader.proofs.Tallying.{ends_at}
 use Rattle.build_leader.proofs.ranges.RangeTally.ends_with.Goals as goal
 
