@@ -1,7 +1,7 @@
 -- What a tuple of the entry tree says.
-use Rattle.std.proofs.Common.{◌≡◌, ◌+◌, ◌-◌, ◌*◌, ◌^◌, ◌<◌, ◌≤◌, ◌↔◌, ℕ, List, [], ◌∷◌, ◌++◌, length, drop, Bool, true, false, sym, ap, subst, ◌∙◌, arith, length-append, Some, None, IfOk, IsTrue, MatchOption, refl}
+use Rattle.std.proofs.Common.{◌≡◌, ◌+◌, ◌-◌, ◌^◌, ◌<◌, ◌≤◌, ◌↔◌, ℕ, List, ◌++◌, length, drop, Bool, true, false, sym, ap, subst, ◌∙◌, arith, Some, None, IfOk, IsTrue, MatchOption}
 use Rattle.std.specs.Prelude.{Option, Result, Ok, Err}
-use Rattle.std.proofs.lemmas.List.{append_assoc, drop_at}
+use Rattle.std.proofs.lemmas.List.{drop_at}
 use Rattle.pg_bytes.specs.Pointers.{row_pointer_at}
 use Rattle.pg_bytes.specs.Places.{zeros}
 use Rattle.pg_bytes.specs.declared.row_ptr.RowPtr.{RowPtr}
@@ -10,8 +10,8 @@ use Rattle.gin_entry.specs.declared.entry.Entry.{Entry}
 use Rattle.gin_entry.specs.EntrySize.{entry_size, list_place}
 use Rattle.posting_tree.specs.Segments.{AreAscending, HaveBlocks, segment}
 use Rattle.gin_file.specs.Entry.{IsEntryOf}
-use Rattle.gin_file.specs.EntryTuple.{key_part, leading_tuple, list_end, list_front, list_size, list_tuple, tree_tuple, inner_tuple}
-use Rattle.gin_file.specs.Item.{IsItemOf, IsListIn, IsTupleOf}
+use Rattle.gin_file.specs.EntryTuple.{key_part, leading_tuple, list_end, list_front, list_size, list_tuple}
+use Rattle.gin_file.specs.Item.{IsListIn, IsTupleOf}
 use Rattle.gin_file.specs.Pass.{BeginsWithEntry, BeginsWithSegment}
 use Rattle.gin_file.specs.declared.entry_reading.EntryItem.{EntryItem}
 use Rattle.gin_file.specs.declared.entry_reading.EntryItem.TheVariants as item

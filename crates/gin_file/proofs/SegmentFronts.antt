@@ -1,5 +1,5 @@
 -- The segment at the front of bytes.
-use Rattle.std.proofs.Common.{◌≡◌, ◌+◌, ◌-◌, ◌*◌, ◌/◌, ◌%◌, Bool, true, false, ◌^◌, ◌<◌, ◌≤◌, ℕ, List, [], ◌∷◌, ◌++◌, length, take, sym, ap, subst, ◌∙◌, arith, length-append, Some, None, IfOk, MatchOption}
+use Rattle.std.proofs.Common.{◌≡◌, ◌+◌, ◌-◌, ◌/◌, ◌%◌, Bool, true, false, ◌<◌, ◌≤◌, ℕ, List, [], ◌∷◌, ◌++◌, length, take, sym, ap, subst, ◌∙◌, arith, length-append, Some, None, IfOk, MatchOption}
 use Rattle.std.specs.Prelude.{cond, nat_lt, Option, Result, Ok, Err, IfSome}
 use Rattle.std.specs.List.{AllByRecursion, flat_map}
 use Rattle.std.proofs.lemmas.List.{append_assoc, append-nil, take_at}
@@ -7,7 +7,7 @@ use Rattle.pg_bytes.specs.Numbers.{number_at, number_bytes}
 use Rattle.pg_bytes.specs.Places.{zeros}
 use Rattle.pg_bytes.specs.Pointers.{row_pointer_bytes}
 use Rattle.pg_bytes.specs.declared.row_ptr.RowPtr.{RowPtr}
-use Rattle.pg_bytes.proofs.Writes.{length-number_bytes, length-zeros}
+use Rattle.pg_bytes.proofs.Writes.{length-number_bytes}
 use Rattle.pg_bytes.proofs.ItemPage.{number_at-first, number_at-past}
 use Rattle.btree_item.proofs.Sizes.{length-row_pointer}
 use Rattle.posting_tree.proofs.LeafSteps.{length-segment}

@@ -1,6 +1,6 @@
 -- The entry at the front of a tuple.
 use Rattle.std.proofs.Common.{◌≡◌, ◌+◌, ◌-◌, ◌*◌, ◌/◌, ◌%◌, ◌^◌, ◌<◌, ◌≤◌, ℕ, zero, suc, slice_index_or, List, [], ◌∷◌, ◌++◌, length, take, drop, Bool, true, false, sym, ap, subst, ◌∙◌, arith, length-append, Some, None, IfOk, MatchOption, inl, inr, refl}
-use Rattle.std.specs.Prelude.{◌⊎◌, ◌||◌, if◌then◌else◌, cond, Option, Result, Ok, Err}
+use Rattle.std.specs.Prelude.{◌||◌, if◌then◌else◌, cond, Option, Result, Ok, Err}
 use Rattle.std.proofs.lemmas.List.{append_assoc, take_at, drop_at}
 use Rattle.pg_bytes.specs.Numbers.{number_at, number_bytes}
 use Rattle.pg_bytes.specs.Places.{zeros}
@@ -11,12 +11,11 @@ use Rattle.pg_bytes.proofs.Writes.{length-number_bytes}
 use Rattle.opclass.specs.declared.types.ColType.{ColType}
 use Rattle.opclass.specs.declared.value.KeyVal.{KeyVal}
 use Rattle.opclass.specs.declared.value.KeyVal.TheVariants.{Items, Nil, Num, Raw}
-use Rattle.opclass.specs.declared.types.ColType.TheVariants as ty
 use Rattle.opclass.specs.declared.types.Form.{Form}
 use Rattle.opclass.specs.declared.types.Form.TheVariants.{Array}
 use Rattle.opclass.specs.Types.{facts_of}
 use Rattle.opclass.specs.Values.{IsValueOf}
-use Rattle.tuple_data.specs.Reading.{BeginsWithData}
+use Rattle.tuple_data.specs.Reading.{BeginsWithData, IsScalarOf}
 use Rattle.tuple_data.specs.Data.{data_of}
 use Rattle.tuple_data.specs.Nulls.{has_null, has_variable, is_null, null_bits}
 use Rattle.btree_item.specs.Tuple.{bitmap_of, data_end, index_tuple, info_of, null_mark, size_of, variable_mark}
@@ -211,66 +210,39 @@ known-category entry (inr (inr same)) some = (NullItem, sym (ap (λ (e : Entry).
 
 -- ---- a key that was read
 
-one : (a b : ColType) → Array a ≡ Array b → b ≡ a
-one a b same = cc
+-- a value that isn't null is an entry's key
+is-entry : (element : ColType) (value : KeyVal) → IsScalarOf element value → null_bits (value ∷ []) ≡ 1 → IsEntry (record { category = 0; key = value })
+is-entry element Nil of there = absurd (omega arith)
+is-entry element (Num number) of there = inl (elem.Num number, refl)
+is-entry element (Raw bytes) of there = inl (elem.Raw bytes, refl)
+is-entry element (Items elements) of there = absurd of
 
--- the types of arrays' elements
-element-of : (kind element : ColType) → (facts_of kind).form ≡ Array element → (element ≡ ty.Int4) ⊎ ((element ≡ ty.Int8) ⊎ (element ≡ ty.Text))
-element-of ty.Bool element is = absurd cc
-element-of ty.Int2 element is = absurd cc
-element-of ty.Int4 element is = absurd cc
-element-of ty.Int8 element is = absurd cc
-element-of ty.Oid element is = absurd cc
-element-of ty.Date element is = absurd cc
-element-of ty.Timestamp element is = absurd cc
-element-of ty.Timestamptz element is = absurd cc
-element-of ty.Time element is = absurd cc
-element-of ty.Uuid element is = absurd cc
-element-of ty.Text element is = absurd cc
-element-of ty.Varchar element is = absurd cc
-element-of ty.Bytea element is = absurd cc
-element-of ty.Float4 element is = absurd cc
-element-of ty.Float8 element is = absurd cc
-element-of ty.Numeric element is = absurd cc
-element-of ty.Bpchar element is = absurd cc
-element-of ty.Name element is = absurd cc
-element-of ty.Interval element is = absurd cc
-element-of ty.Json element is = absurd cc
-element-of ty.Jsonb element is = absurd cc
-element-of ty.Int4Array element is = inl (one _ _ is)
-element-of ty.Int8Array element is = inr (inl (one _ _ is))
-element-of ty.TextArray element is = inr (inr (one _ _ is))
-
--- a value of such a type is an entry's key, unless it is null
-is-entry : (element : ColType) (value : KeyVal) → (element ≡ ty.Int4) ⊎ ((element ≡ ty.Int8) ⊎ (element ≡ ty.Text)) → IsValueOf element value
-    → null_bits (value ∷ []) ≡ 1 → IsEntry (record { category = 0; key = value })
-is-entry element Nil known of there = absurd (omega arith)
-is-entry element (Num number) known of there = inl (elem.Num number, refl)
-is-entry element (Raw bytes) known of there = inl (elem.Raw bytes, refl)
-is-entry element (Items elements) (inl same) of there = absurd (subst (λ (k : ColType). IsValueOf k (Items elements)) same of)
-is-entry element (Items elements) (inr (inl same)) of there = absurd (subst (λ (k : ColType). IsValueOf k (Items elements)) same of)
-is-entry element (Items elements) (inr (inr same)) of there = absurd (subst (λ (k : ColType). IsValueOf k (Items elements)) same of)
+is-value : (element : ColType) (value : KeyVal) → IsScalarOf element value → IsValueOf element value
+is-value element Nil of = of
+is-value element (Num number) of = of
+is-value element (Raw bytes) of = of
+is-value element (Items elements) of = absurd of
 
 pub typed-key : (kind element : ColType) (bytes : List ℕ) (value : KeyVal) → (facts_of kind).form ≡ Array element
     → BeginsWithData (element ∷ []) 1 bytes (value ∷ []) → IsEntryOf kind (record { category = 0; key = value })
-typed-key kind element bytes value form b =
-    let of : IsValueOf element value = b.typed.0 in
-    record {
-      entry_is = is-entry element value (element-of kind element form) of b.bits;
-      key = subst (λ (f : Form). IsKeyOf f value) (sym form) of;
-    }
+typed-key kind element bytes value form b = record {
+  entry_is = is-entry element value b.typed.0 b.nulls;
+  key = subst (λ (f : Form). IsKeyOf f value) (sym form) (is-value element value b.typed.0);
+}
 
--- the one list of values whose data bytes begin with
-pub values-one : (kinds : List ColType) (present : ℕ) (bytes : List ℕ) (a b : List KeyVal)
-    → BeginsWithData kinds present bytes a → BeginsWithData kinds present bytes b → a ≡ b
-values-one kinds present bytes a b one other = ?
+-- ---- the one value that is read
 
-pub value-only : (kind : ColType) (bytes : List ℕ) (values : List KeyVal) (rest : List KeyVal) (popped : Option KeyVal)
-    → BeginsWithData (kind ∷ []) 1 bytes values → MatchOption popped ((values ≡ []) × (rest ≡ [])) (λ last. values ≡ rest ++ last ∷ [])
+some-one : (a b : List KeyVal) → Some a ≡ Some b → a ≡ b
+some-one a b e = cc
+
+-- a list that is the one with which bytes begin has the one value
+pub value-only : (kind : ColType) (bytes : List ℕ) (values rest : List KeyVal) (answer : Option (List KeyVal)) (popped : Option KeyVal) → answer ≡ Some values
+    → ((others : List KeyVal) → BeginsWithData (kind ∷ []) 1 bytes others → answer ≡ Some others)
+    → MatchOption popped ((values ≡ []) × (rest ≡ [])) (λ last. values ≡ rest ++ last ∷ [])
     → (value : KeyVal) → BeginsWithData (kind ∷ []) 1 bytes (value ∷ []) → popped ≡ Some value
-value-only kind bytes values rest None begins popped value one = let same = values-one (kind ∷ []) 1 bytes values (value ∷ []) begins one in absurd cc
-value-only kind bytes values rest (Some last) begins popped value one =
-    let same = values-one (kind ∷ []) 1 bytes values (value ∷ []) begins one in
+value-only kind bytes values rest answer None found only popped value begins = let same = only (value ∷ []) begins in absurd cc
+value-only kind bytes values rest answer (Some last) found only popped value begins =
+    let same : values ≡ value ∷ [] = some-one values (value ∷ []) (sym found ∙ only (value ∷ []) begins) in
     by rest (sym popped ∙ same)
   where
     by : (rest : List KeyVal) → rest ++ last ∷ [] ≡ value ∷ [] → Some last ≡ Some value

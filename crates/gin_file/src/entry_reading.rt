@@ -119,6 +119,7 @@ fn read_key_value(alloc: Global, kind: ColType, bytes: &[u8]) -> Result<Option<E
 
 // The one value whose data bytes begin with. None comes only where there is none.
 fn read_value(alloc: Global, kind: ColType, bytes: &[u8]) -> Result<Option<KeyVal>, AllocError>
+    requires { length bytes.now < 2 ^ 13 }
     ensures found { IfOk result (λ answer. IfSome answer (λ value.
         BeginsWithData (kind ∷ []) 1 bytes.now (value ∷ []))) }
     ensures only { IfOk result (λ answer.

@@ -1,6 +1,6 @@
 -- A value that stands at a place of bytes, and what is read there.
-use Rattle.std.proofs.Common.{◌≡◌, ◌≢◌, ℕ, zero, suc, ◌+◌, ◌-◌, ◌*◌, ◌/◌, ◌%◌, ◌^◌, ◌<◌, ◌≤◌, ℤ, Bool, true, false, List, [], ◌∷◌, ◌++◌, length, take, drop, slice_index_or, Some, None, refl, sym, ap, subst, ◌∙◌, arith, inl, inr, length-append, length-drop}
-use Rattle.std.specs.Prelude.{◌⊎◌, All, MatchOption, Option, replicate}
+use Rattle.std.proofs.Common.{◌≡◌, ◌≢◌, ℕ, zero, suc, ◌+◌, ◌-◌, ◌*◌, ◌%◌, ◌^◌, ◌<◌, ◌≤◌, ℤ, false, List, [], ◌∷◌, ◌++◌, length, take, drop, slice_index_or, Some, None, refl, sym, ap, subst, ◌∙◌, arith, inl, inr, length-append, length-drop}
+use Rattle.std.specs.Prelude.{◌⊎◌, All, MatchOption, Option}
 use Rattle.std.specs.List.{slice_range}
 use denote.Ref.{Bor}
 use Rattle.std.specs.Int.{w64, cast_unsigned}
@@ -20,9 +20,9 @@ use Rattle.pg_bytes.specs.Numbers.{number_at, number_bytes, rounded_up}
 use Rattle.pg_bytes.specs.Places.{zeros}
 use Rattle.pg_bytes.proofs.ItemPage.{number_at-first}
 use Rattle.pg_bytes.proofs.Writes.{length-number_bytes, length-zeros}
-use Rattle.tuple_data.specs.Datum.{long_header, number_datum, padding, piece_at, short_header, stored_at, variable_datum}
+use Rattle.tuple_data.specs.Datum.{long_header, padding, piece_at, short_header, stored_at, variable_datum}
 use Rattle.tuple_data.specs.Nulls.{is_null}
-use Rattle.tuple_data.specs.Reading.{AreFixed, AreNumber, HasPiece, IsNumberForm, IsScalarOf, IsSlice, StandsAt}
+use Rattle.tuple_data.specs.Reading.{AreFixed, HasPiece, IsNumberForm, IsScalarOf, IsSlice, StandsAt}
 use Rattle.tuple_data.proofs.Facts.{alignment_is_known}
 use Rattle.tuple_data.proofs.Pieces.{piece_at-fixed, piece_at-number, piece_at-variable, rounded_up-above, stored_at-long, stored_at-narrow, stored_at-short}
 

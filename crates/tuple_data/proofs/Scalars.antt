@@ -1,12 +1,12 @@
 -- The value that bytes are: numbers.
-use Rattle.std.proofs.Common.{◌≡◌, ◌≢◌, ℕ, zero, suc, ◌+◌, ◌-◌, ◌*◌, ◌/◌, ◌%◌, ◌^◌, ◌<◌, ◌≤◌, ℤ, pos, negsuc, List, [], ◌∷◌, ◌++◌, length, slice_index_or, Some, refl, sym, ap, subst, ◌∙◌, arith, inl, inr}
+use Rattle.std.proofs.Common.{◌≡◌, ◌≢◌, ℕ, suc, ◌/◌, ◌%◌, ◌^◌, ◌<◌, ◌≤◌, ℤ, pos, negsuc, List, [], length, refl, sym, ap, subst, ◌∙◌, arith, inl, inr}
 use Rattle.std.specs.Prelude.{◌⊎◌, FitsSigned, neg_ℤ, ◌≤ℤ◌, ◌<ℤ◌, slice_index}
 use Rattle.std.proofs.lemmas.Int.{ints, to_z-of_z}
 use Rattle.std.proofs.lemmas.List.{append-nil}
 use Rattle.std.specs.Int.{w16, w32, w64, cast_signed, cast_unsigned}
 use Rattle.byteorder.specs.Endian.{little_number}
 use Rattle.byteorder.specs.Numbers.{little_from-bytes}
-use Rattle.opclass.specs.declared.types.Form.TheVariants.{Truth, Signed, Unsigned}
+use Rattle.opclass.specs.declared.types.Form.TheVariants.{Signed, Unsigned}
 use Rattle.opclass.specs.declared.types.Width.TheVariants.{Fixed}
 use Rattle.opclass.specs.Values.{IsNumberOf}
 use Rattle.pg_bytes.specs.Numbers.{number_bytes}

@@ -8,7 +8,7 @@ use Rattle.opclass.specs.declared.types.ColType.{ColType}
 use Rattle.opclass.specs.declared.types.Form.{Form}
 use Rattle.opclass.specs.declared.types.Form.TheVariants.{Truth, Signed, Unsigned}
 use Rattle.opclass.specs.declared.value.KeyVal.{KeyVal}
-use Rattle.opclass.specs.declared.value.KeyVal.TheVariants.{Nil, Num, Raw, Items}
+use Rattle.opclass.specs.declared.value.KeyVal.TheVariants.{Num, Raw, Items}
 use Rattle.opclass.specs.Values.{IsValueOf}
 use Rattle.tuple_data.specs.Data.{data_of}
 use Rattle.tuple_data.specs.Datum.{piece_at}

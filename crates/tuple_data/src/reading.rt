@@ -23,9 +23,11 @@ pub fn read_data(
     bytes: &[u8],
 ) -> Result<Option<KeyList>, AllocError>
     requires { length bytes.now < 2 ^ 30 }
-    ensures { IfOk result (λ answer. MatchOption answer
+    ensures exact { IfOk result (λ answer. MatchOption answer
         ((values : List KeyVal) → BeginsWithData kinds.now bits bytes.now values → ⊥)
         (BeginsWithData kinds.now bits bytes.now)) }
+    ensures only { IfOk result (λ answer. (values : List KeyVal)
+        → BeginsWithData kinds.now bits bytes.now values → answer ≡ Some values) }
 {
     let Some(values) = read_values(alloc, kinds, bits, bytes)? else {
         return Ok(None);

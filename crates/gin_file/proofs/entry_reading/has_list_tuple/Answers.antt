@@ -1,4 +1,4 @@
-use Rattle.std.proofs.Common.{rules, ◌≡◌, ◌∙◌, arith, ap, ◌+◌, ℕ, length, List}
+use Rattle.std.proofs.Common.{rules, arith}
 use Rattle.gin_file.proofs.EntryItems.{few-listed, list-answer}
 use Rattle.gin_file.proofs.entry_reading.has_list_tuple.Goals as goal
 

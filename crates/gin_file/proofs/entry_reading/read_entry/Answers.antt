@@ -1,4 +1,4 @@
-use Rattle.std.proofs.Common.{rules, ◌≡◌, ◌∙◌, arith, ap, sym}
+use Rattle.std.proofs.Common.{◌∙◌, arith, ap, sym}
 use Rattle.pg_bytes.specs.declared.row_ptr.RowPtr.{RowPtr}
 use Rattle.gin_file.proofs.EntryItems.{inner-read, list-read, tree-read, tuple-begins, tuple-small}
 use Rattle.gin_file.proofs.entry_reading.read_entry.Goals as goal

@@ -1,6 +1,6 @@
-use Rattle.std.proofs.Common.{rules, ◌≡◌, ◌∙◌, arith}
+use Rattle.std.proofs.Common.{rules, arith}
 use Rattle.std.proofs.lemmas.List.{take_rest}
-use Rattle.gin_file.proofs.TupleFronts.{key-front, key-only, long-front, placeholder-front}
+use Rattle.gin_file.proofs.TupleFronts.{key-only, long-front, placeholder-front}
 use Rattle.gin_file.proofs.entry_reading.read_key.Goals as goal
 
 pub returns-then-bytes-lt-HEAD-clause-only : goal.returns-then-bytes-lt-HEAD-clause-only

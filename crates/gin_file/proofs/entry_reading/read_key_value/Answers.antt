@@ -1,4 +1,4 @@
-use Rattle.std.proofs.Common.{rules, ◌≡◌, ◌∙◌, arith, sym, ap, subst, ℕ}
+use Rattle.std.proofs.Common.{◌∙◌, sym, ap, subst, ℕ}
 use Rattle.opclass.specs.declared.types.TypeFacts.{TypeFacts}
 use Rattle.gin_file.specs.Entry.{IsEntryOf}
 use Rattle.gin_file.proofs.TupleFronts.{typed-key}

@@ -1,4 +1,4 @@
-use Rattle.std.proofs.Common.{rules, ◌≡◌, ◌∙◌, arith, sym}
+use Rattle.std.proofs.Common.{◌∙◌, sym}
 use Rattle.gin_file.proofs.TupleFronts.{byte-at, known-category}
 use Rattle.gin_file.proofs.entry_reading.read_placeholder.Goals as goal
 

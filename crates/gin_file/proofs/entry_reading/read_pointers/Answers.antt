@@ -1,4 +1,4 @@
-use Rattle.std.proofs.Common.{rules, ◌≡◌, ◌∙◌, arith}
+use Rattle.std.proofs.Common.{rules}
 use Rattle.std.proofs.lemmas.List.{take_rest}
 use Rattle.gin_file.proofs.EntryItems.{list-sizes, pointers-only}
 use Rattle.gin_file.proofs.entry_reading.read_pointers.Goals as goal

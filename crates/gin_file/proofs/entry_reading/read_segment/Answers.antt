@@ -1,4 +1,4 @@
-use Rattle.std.proofs.Common.{rules, ◌≡◌, ◌∙◌, arith}
+use Rattle.std.proofs.Common.{rules, ◌∙◌}
 use Rattle.gin_file.proofs.SegmentFronts.{cut-off, decoded-only, some-decoded, too-few}
 use Rattle.gin_file.proofs.entry_reading.read_segment.Goals as goal
 

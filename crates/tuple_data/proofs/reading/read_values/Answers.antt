@@ -1,8 +1,8 @@
-use Rattle.std.proofs.Common.{rules, ◌≡◌, ◌∙◌, ◌+◌, arith, ap, sym, subst, ℕ, List, length, ◌∷◌, [], Some}
+use Rattle.std.proofs.Common.{rules, ◌≡◌, arith, ap, subst, ℕ, List, length, ◌∷◌}
 use Rattle.opclass.specs.declared.types.ColType.{ColType}
 use Rattle.opclass.specs.declared.value.KeyVal.{KeyVal}
 use Rattle.tuple_data.specs.Datum.{piece_at}
-use Rattle.tuple_data.proofs.ReadPass.{ReadsSoFar, all-read, bits-left, first-left, piece-inside, reads-one, step-first, step-one}
+use Rattle.tuple_data.proofs.ReadPass.{ReadsSoFar, all-read, first-left, piece-inside, reads-one, step-first, step-one}
 use Rattle.tuple_data.proofs.Room.{room-piece}
 use Rattle.tuple_data.proofs.reading.read_values.Goals as goal
 
@@ -65,4 +65,3 @@ returns-clause-small c =
     let size = (all-read c.args.kinds.now c.args.bits c.args.bytes.now c.loop-kind.kinds.now c.loop-kind.place c.loop-kind.values none so).size in
     let few = c.requires in
     omega arith
-

@@ -1,4 +1,4 @@
-use Rattle.std.proofs.Common.{rules, ◌≡◌, ◌∙◌, arith, ap, sym, subst}
+use Rattle.std.proofs.Common.{sym}
 use Rattle.tuple_data.proofs.ScalarPieces.{even-long, long-first, odd-short, short-first}
 use Rattle.tuple_data.proofs.scalar.content_at.Goals as goal
 

@@ -1,4 +1,4 @@
-use Rattle.std.proofs.Common.{rules, ◌≡◌, ◌∙◌, arith, ◌+◌, length, ap, sym, subst}
+use Rattle.std.proofs.Common.{arith, ◌+◌, length}
 use Rattle.tuple_data.proofs.ScalarPieces.{long-read, slice-read}
 use Rattle.tuple_data.proofs.scalar.long_at.Goals as goal
 

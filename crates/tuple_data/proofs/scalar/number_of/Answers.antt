@@ -1,4 +1,4 @@
-use Rattle.std.proofs.Common.{rules, ◌≡◌, ◌∙◌, arith, ap, sym, subst, Some, ℤ, pos, length}
+use Rattle.std.proofs.Common.{◌∙◌, ap, Some, ℤ, pos, length}
 use Rattle.std.proofs.lemmas.Int.{to_z-of_z}
 use Rattle.std.specs.Int.{w16, w32, w64}
 use Rattle.tuple_data.proofs.Scalars.{eight, signed2, signed4, signed8, truth1, unsigned4}

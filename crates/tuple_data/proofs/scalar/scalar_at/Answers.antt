@@ -1,4 +1,4 @@
-use Rattle.std.proofs.Common.{rules, ◌≡◌, ◌∙◌, arith, ap, sym, subst, ℕ, length}
+use Rattle.std.proofs.Common.{◌∙◌, ap, sym, subst, length}
 use Rattle.opclass.specs.declared.types.TypeFacts.{TypeFacts}
 use Rattle.pg_bytes.specs.Numbers.{rounded_up}
 use Rattle.tuple_data.specs.Reading.{AreFixed}
