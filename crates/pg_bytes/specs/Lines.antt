@@ -1,5 +1,6 @@
 -- What is read of a page by its line pointers, which are counted from 1 (bufpage.h, itemid.h).
-use Rattle.std.specs.Prelude.{◌≡◌, ℕ, ◌+◌, ◌-◌, ◌/◌, ◌≤◌, if◌then◌else◌, nat_eq, nat_le, ◌&&◌, Bool, Option, Some, None, List, take, drop, filter_map}
+use Rattle.std.specs.Prelude.{◌≡◌, ℕ, ◌+◌, ◌-◌, ◌/◌, ◌≤◌, Bool, if◌then◌else◌, nat_eq, nat_le, ◌&&◌}
+use Rattle.std.specs.Prelude.{Option, Some, None, List, take, drop, filter_map}
 use Rattle.std.specs.List.{range_with_len}
 use Rattle.pg_bytes.specs.Numbers.{number_at}
 use Rattle.pg_bytes.specs.PageLayout.{page_size, header_size, line_pointer_size, lower_of, line_place}
