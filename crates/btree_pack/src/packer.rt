@@ -58,10 +58,22 @@ impl Packer {
         })
     }
 
-    /// Puts a row behind the others, which come in their order. The packer takes the record's
-    /// values and leaves it others, whose memory the next row can have. An error means that no
-    /// memory was left, and then every later call answers the same.
-    pub fn put(&mut self, row: &mut Record) -> Result<(), AllocError>
+    /// Puts a row behind the others, which come in their order. An error means that no memory was
+    /// left, and then every later call answers the same.
+    pub fn put(&mut self, mut row: Record) -> Result<(), AllocError>
+        requires { Takes self.old (row_of row) }
+        ensures ok { OnOk result ((spec : IndexSpec) → (kinds : List ColType) → (rows : List Row)
+            → HasPut spec kinds rows self.old
+            → HasPut spec kinds (rows ++ row_of row ∷ []) self.new) }
+        ensures err { OnErr result (IsSpent self.new) }
+        ensures spent { IsSpent self.old → IsErr result }
+    {
+        self.put_from(&mut row)
+    }
+
+    /// Puts a row behind the others, as `put` does, out of a record of its caller's. On return the
+    /// record holds spare buffers for the next row.
+    pub fn put_from(&mut self, row: &mut Record) -> Result<(), AllocError>
         requires { Takes self.old (row_of row.old) }
         ensures ok { OnOk result ((spec : IndexSpec) → (kinds : List ColType) → (rows : List Row)
             → HasPut spec kinds rows self.old

@@ -46,7 +46,7 @@ impl RowPacker for Packer {
     ghost takes = { Takes };
 
     fn put(&mut self, row: &mut Record) -> Result<(), AllocError> {
-        Packer::put(self, row)
+        Packer::put_from(self, row)
     }
 
     ghost takes_rows = { Prim.search rules };

@@ -55,7 +55,7 @@ impl Sink {
         ensures same { StaysSuited self.old self.new }
     {
         match self {
-            Sink::Rows(spool) => spool.put(row),
+            Sink::Rows(spool) => spool.put_copy(row),
             Sink::Entries(gather) => gather.put(row.keys.get(0), row.ptr),
             Sink::Ranges(tally) => tally.add(row),
         }

@@ -53,14 +53,14 @@ pub fn merge(alloc: Global, tapes: Tapes, order: SortSpec) -> Result<Merged, All
 impl Merged {
     /// The records of runs that stand in order already, as the parts of `merge_range` do. It takes
     /// no memory.
-    pub fn in_order(alloc: Global, parts: Tape) -> Merged
+    pub fn in_order(parts: Tape) -> Merged
         requires { StandInOrder parts }
         ensures order { result.order ≡ order_of parts }
         ensures left { result.left ≡ records_of parts }
         ensures in_order { result.in_order ≡ true }
     {
         Merged {
-            alloc,
+            alloc: parts.alloc(),
             source: Source::Ordered(OrderedRuns::new(parts)),
         }
     }

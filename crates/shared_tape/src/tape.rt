@@ -42,6 +42,11 @@ impl Tape {
         Tape { runs }
     }
 
+    /// The allocator that the tape was made with.
+    pub fn alloc(&self) -> Global {
+        *self.runs.allocator()
+    }
+
     /// Puts a run behind the others. On want of memory it hands the run back and changes nothing.
     pub fn append_run(&mut self, run: Run) -> Result<(), Run>
         ensures ok { OnOk result (self.new ≡ self.old ++ run ∷ []) }

@@ -404,13 +404,13 @@ fn in_order(alloc: Global, run: Run) -> Result<Merged, AllocError> {
     let _count = run.len();
     let mut tape = Tape::new(alloc);
     put_run(&mut tape, run)?;
-    Ok(Merged::in_order(alloc, tape))
+    Ok(Merged::in_order(tape))
 }
 
 #[test]
 fn records_in_order_are_given_in_place(rt: HostRuntime) -> Result<(), Fail> {
     let alloc = rt.alloc();
-    assert_gives(&rt, alloc, Merged::in_order(alloc, Tape::new(alloc)), &[])?;
+    assert_gives(&rt, alloc, Merged::in_order(Tape::new(alloc)), &[])?;
     let rows: &[Row] = &[(Some(2), 0, 1), (Some(1), 0, 2), (Some(2), 0, 0)];
     let run = run_of(alloc, ASCENDING, rows)?;
     let wanted: &[Row] = &[(Some(1), 0, 2), (Some(2), 0, 0), (Some(2), 0, 1)];

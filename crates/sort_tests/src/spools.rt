@@ -41,7 +41,9 @@ fn put_all(alloc: Global, spool: &mut Spool, rows: &[u16]) -> Result<(), AllocEr
     requires { length spool.old.order ≡ 1 }
 {
     for offset in rows {
-        spool.put(&record(alloc, *offset)?)?;
+        if spool.put(record(alloc, *offset)?).is_err() {
+            return Err(AllocError);
+        }
     }
     Ok(())
 }

@@ -104,7 +104,7 @@ impl EntrySpool {
             (entry_record self.old.row.ptr (entry_of element.now) ∷ []) self.new) }
     {
         fill(self.alloc, &mut self.row.keys, element)?;
-        self.spool.put(&self.row)
+        self.spool.put_copy(&self.row)
     }
 
     fn put_placeholder(&mut self, category: Category) -> Result<(), AllocError>
@@ -116,7 +116,7 @@ impl EntrySpool {
     {
         clear(&mut self.row.keys);
         fill_with(&mut self.row.keys, category, KeyVal::Nil)?;
-        self.spool.put(&self.row)
+        self.spool.put_copy(&self.row)
     }
 
     /// The tape of the records put.

@@ -1,4 +1,4 @@
-ghost use Rattle.std.specs.Prelude.{◌≡◌, ◌+◌, ◌<◌, ◌≤◌, [], ◌∷◌, ◌++◌, IfOk, List, OnErr, OnOk, length, ℕ};
+ghost use Rattle.std.specs.Prelude.{◌≡◌, ◌+◌, ◌<◌, ◌≤◌, [], ◌∷◌, ◌++◌, IfErr, IfOk, List, OnErr, OnOk, length, ℕ};
 ghost use Rattle.std.specs.List.Sorted.{IsPermutation};
 ghost use Rattle.opclass.specs.declared.spec.SortPart.{SortPart};
 ghost use Rattle.shared_tape.specs.Runs.{records_of};
@@ -53,9 +53,22 @@ impl Spool {
         }
     }
 
+    /// Keeps a record. On want of memory it hands the record back, and the spool is unchanged.
+    pub fn put(&mut self, row: Record) -> Result<(), Record>
+        requires { IsStorable self.old.order row }
+        ensures ok { OnOk result (TakesRecord self.old row self.new) }
+        ensures err { OnErr result (self.new ≡ self.old) }
+        ensures handed_back { IfErr result (λ back. back ≡ row) }
+    {
+        match self.put_copy(&row) {
+            Ok(()) => Ok(()),
+            Err(_) => Err(row),
+        }
+    }
+
     /// Keeps a copy of a record, so that its owner can fill it anew for the next one. An error means
     /// that no memory was left, and then the spool is unchanged.
-    pub fn put(&mut self, row: &Record) -> Result<(), AllocError>
+    pub fn put_copy(&mut self, row: &Record) -> Result<(), AllocError>
         requires { IsStorable self.old.order row.now }
         ensures ok { OnOk result (TakesRecord self.old row.now self.new) }
         ensures err { OnErr result (self.new ≡ self.old) }

@@ -8,8 +8,8 @@ use Rattle.build_leader.specs.Holding.{CanTake, IsSinkOf}
 use Rattle.build_leader.proofs.Sinking.{entries_take, is_array_of, ranges_take, rows_take}
 use Rattle.build_leader.proofs.sink.Sink.put.Goals as goal
 
-pub put-requires-in-Entries : goal.put-requires-in-Entries
-put-requires-in-Entries c =
+pub put-requires : goal.put-requires
+put-requires c =
     let row = c.args.row.now in
     let can : (0 < length row.keys) × AreStorableEntries (array_of row) row.ptr =
     subst (λ (sink : Sink). CanTake sink row) c.in-Entries.is c.requires in
@@ -17,21 +17,21 @@ put-requires-in-Entries c =
 
 pub returns-in-Rows-clause-took : goal.returns-in-Rows-clause-took
 returns-in-Rows-clause-took c =
-    on_ok_weaker c.put.result
-    (λ took. rows_take c.args.self.now c.in-Rows.spool c.put.new.self c.args.row.now c.in-Rows.is took)
-    c.put.ensures.ok
+    on_ok_weaker c.put_copy.result
+    (λ took. rows_take c.args.self.now c.in-Rows.spool c.put_copy.new.self c.args.row.now c.in-Rows.is took)
+    c.put_copy.ensures.ok
 
 pub returns-in-Entries-clause-took : goal.returns-in-Entries-clause-took
 returns-in-Entries-clause-took c =
-    on_ok_weaker c.put-in-Entries.result
+    on_ok_weaker c.put.result
     (λ took.
-    entries_take c.args.self.now c.in-Entries.gather c.put-in-Entries.new.self c.args.row.now c.get.result.now c.in-Entries.is c.get.ensures took)
-    c.put-in-Entries.ensures.ok
+    entries_take c.args.self.now c.in-Entries.gather c.put.new.self c.args.row.now c.get.result.now c.in-Entries.is c.get.ensures took)
+    c.put.ensures.ok
 
 pub returns-in-Entries-clause-same : goal.returns-in-Entries-clause-same
 returns-in-Entries-clause-same c = λ spec run_rows is.
     let of = subst (IsSinkOf spec run_rows) c.in-Entries.is is in
-    (of.0, c.put-in-Entries.ensures.run_rows ∙ of.1)
+    (of.0, c.put.ensures.run_rows ∙ of.1)
 
 pub returns-in-Ranges-clause-took : goal.returns-in-Ranges-clause-took
 returns-in-Ranges-clause-took c =
