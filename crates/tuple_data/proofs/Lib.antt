@@ -9,3 +9,7 @@ pub mod Room
 pub mod NullBits
 -- what the pass that puts the data keeps
 pub mod PutPass
+-- one number at most is stored in the same bytes
+pub mod OneNumber
+pub mod OneValue
+pub mod OneReading
