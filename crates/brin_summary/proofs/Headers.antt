@@ -2,13 +2,12 @@
 use Rattle.std.proofs.Common.{◌≡◌, ◌⊎◌, ℕ, zero, suc, ◌+◌, ◌-◌, ◌*◌, ◌/◌, ◌%◌, ◌^◌, ◌<◌, ◌≤◌, Bool, true, false, nat_eq, nat_lt, if◌then◌else◌, List, [], ◌∷◌, ◌++◌, length, take, drop, get_or, replicate, refl, sym, ap, subst, ◌∙◌, inl, inr, arith, lit<, pow_pos, length-append}
 use Rattle.std.proofs.Math.Nat.{div-div-eq-div-mul, div-eq_of_lt, mod-lt, pow-le-pow_right, pow-succ'}
 use Rattle.std.proofs.lemmas.Nat.{div-add-mod', pow-add}
-use Rattle.std.proofs.Math.Seq.{get_or-append_seam, take-append-add}
+use Rattle.std.proofs.Math.Seq.{get_or-append_seam}
 use Rattle.std.specs.Int.{byte_at, bytes_low_first}
 use Rattle.std.specs.List.{list_any}
 use Rattle.std.proofs.lemmas.Bool.{le-ltb, lt-ltb, ltb-false, ltb-true}
-use Rattle.std.proofs.lemmas.List.{append_assoc, append-nil, length-take-le, length-take, take-append-drop, take_at}
+use Rattle.std.proofs.lemmas.List.{append_assoc, length-take, take-append-drop, take_at}
 use Rattle.byteorder.proofs.Bytes.{pow256}
-use Rattle.pg_bytes.proofs.ItemPage.{length-aligned}
 use Rattle.pg_bytes.proofs.Writes.{length-number_bytes, length-zeros, zeros-append}
 use Rattle.pg_bytes.specs.Numbers.{number_at, number_bytes, rounded_up}
 use Rattle.pg_bytes.specs.PageLayout.{aligned}

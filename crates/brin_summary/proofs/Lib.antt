@@ -18,6 +18,8 @@ pub mod Headers
 pub mod RangeTuples
 -- a tuple that is read
 pub mod RangeReading
+-- bytes are the tuple of one range
+pub mod OneRange
 -- tuples cut into pages
 pub mod Cutting
 -- the pointers to tuples, and the revmap

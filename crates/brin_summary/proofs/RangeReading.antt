@@ -1,7 +1,6 @@
 -- The tuple of a range that is read: its header, its bounds and what stands behind them.
-use Rattle.std.proofs.Common.{◌≡◌, ◌≢◌, ℕ, zero, suc, ◌+◌, ◌-◌, ◌*◌, ◌/◌, ◌%◌, ◌^◌, ◌<◌, ◌≤◌, Bool, true, false, nat_eq, if◌then◌else◌, List, [], ◌∷◌, ◌++◌, length, map, take, drop, All, refl, sym, ap, subst, ◌∙◌, arith, lit<, length-append}
+use Rattle.std.proofs.Common.{◌≡◌, ◌≢◌, ℕ, zero, suc, ◌+◌, ◌-◌, ◌*◌, ◌/◌, ◌%◌, ◌^◌, ◌<◌, ◌≤◌, Bool, true, false, nat_eq, if◌then◌else◌, List, [], ◌∷◌, ◌++◌, length, map, take, drop, All, refl, sym, ap, subst, ◌∙◌, arith, lit<}
 use Rattle.std.proofs.Math.Nat.{div-div-eq-div-mul, pow-le-pow_right, pow-succ'}
-use Rattle.std.proofs.lemmas.Nat.{pow-add}
 use Rattle.std.specs.List.{AllZip}
 use Rattle.std.proofs.lemmas.List.{append_assoc, map-append, take-append-drop}
 use Rattle.std.proofs.lemmas.List.Elements.{All-cons, All-head, All-nil, All-tail}
@@ -19,7 +18,7 @@ use Rattle.brin_summary.specs.Pass.{columns_from, flags_of, low_nulls, present_o
 use Rattle.brin_summary.specs.Reading.{HasHeader, HasPair, IsRangeTuple, column_read}
 use Rattle.brin_summary.specs.declared.range_tuple.RangeCol.{RangeCol}
 use Rattle.brin_summary.specs.Summary.{ColumnSummary, RangeSummary}
-use Rattle.brin_summary.specs.Tuple.{Header, bound_kinds, bounds_of, header_bytes, header_of, is_all_null, null_flags, place_behind, range_data, range_tuple}
+use Rattle.brin_summary.specs.Tuple.{bound_kinds, bounds_of, header_bytes, is_all_null, null_flags, place_behind, range_data, range_tuple}
 
 -- ---- flags
 
@@ -186,9 +185,9 @@ module _ (kinds : List ColType) (columns first bits : ℕ) (has_rows : Bool) (by
       → take (length (data_of (bound_kinds kinds) values)) (drop place bytes) ≡ data_of (bound_kinds kinds) values
       → drop (length (data_of (bound_kinds kinds) values)) (drop place bytes)
       ≡ zeros (rounded_up 8 (length (data_of (bound_kinds kinds) values)) - length (data_of (bound_kinds kinds) values))
-      → IsRangeTuple kinds first (range_with values) bytes
+      → length bytes ≤ 8152 → IsRangeTuple kinds first (range_with values) bytes
   unfolding range_tuple range_data aligned
-  whole-tuple values even typed present empty front behind =
+  whole-tuple values even typed present empty front behind small =
       let nulls : List Bool = flags_of columns (bits / 2 ^ columns) in
       let count = length-flags_of columns bits in
       let count' = length-flags_of columns (bits / 2 ^ columns) in
@@ -206,6 +205,7 @@ module _ (kinds : List ColType) (columns first bits : ℕ) (has_rows : Bool) (by
         typed = subst (AllZip IsValueOf (bound_kinds kinds)) kept typed;
         paired = pairs.pairs;
         empty = empty;
+        size = small;
         bytes_are = sym (take-append-drop place bytes) ∙ ap (λ (l : List ℕ). l ++ drop place bytes) has.front
             ∙ ap (λ (l : List ℕ). head (flags_of (2 * columns) bits) ++ l) data_is
             ∙ ap (λ (fs : List Bool). head fs ++ tail values) (sym flags)

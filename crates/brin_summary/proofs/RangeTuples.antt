@@ -1,5 +1,5 @@
 -- Which ranges' tuples there are, and what they begin with.
-use Rattle.std.proofs.Common.{◌≡◌, ◌⊎◌, ⊎_elim, ℕ, zero, suc, ◌+◌, ◌-◌, ◌*◌, ◌^◌, ◌<◌, ◌≤◌, Bool, true, false, ◌&&◌, List, [], ◌∷◌, ◌++◌, length, map, take, Option, Some, slice_get, All, refl, sym, ap, subst, ◌∙◌, arith, length-append}
+use Rattle.std.proofs.Common.{◌≡◌, ◌⊎◌, ⊎_elim, ℕ, zero, suc, ◌+◌, ◌*◌, Bool, true, false, ◌&&◌, List, [], ◌∷◌, length, map, take, Some, slice_get, All, refl, sym, ap, subst, ◌∙◌, arith}
 use Rattle.std.specs.List.{AllZip, range_with_len}
 use Rattle.std.proofs.lemmas.List.{take_at}
 use Rattle.std.proofs.lemmas.List.Elements.{All-cons, All-head, All-nil, All-tail}
@@ -13,9 +13,9 @@ use Rattle.opclass.specs.declared.value.KeyVal.TheVariants.{Nil, Num, Raw, Items
 use Rattle.tuple_data.specs.Nulls.{is_null}
 use Rattle.brin_summary.proofs.Choosing.{greater-comm, greater-either, greater-null, lesser-comm, lesser-either, lesser-null}
 use Rattle.brin_summary.proofs.Flags.{length-bounds_of, length-null_flags}
-use Rattle.brin_summary.proofs.Tuples.{length-tuple_header}
+use Rattle.brin_summary.proofs.Tuples.{length-tuple_header, tuple_size-anywhere}
 use Rattle.brin_summary.specs.Laws.{SummariesHaveTuples, TuplesHaveTheirHeader}
-use Rattle.brin_summary.specs.Reading.{HasHeader, HasPair, IsRangeTuple}
+use Rattle.brin_summary.specs.Reading.{HasPair}
 use Rattle.brin_summary.specs.Summary.{ColumnSummary, RangeSummary, column_summary, greater, greatest, is_some_row, least, lesser, summary_of, value_in}
 use Rattle.brin_summary.specs.Tuple.{bound_kinds, bounds_of, header_bytes, header_of, is_all_null, place_behind, range_data, range_tuple}
 
@@ -139,7 +139,7 @@ no-row (row ∷ rows) none = absurd (cc)
 
 pub have_tuples : SummariesHaveTuples
 unfolding summary_of column_summary
-have_tuples kinds first rows fits typed = record {
+have_tuples kinds first rows fits typed small = record {
   block = fits;
   typed = bounds-typed kinds (λ column. column_summary (map (value_in column) rows)) 0
       (λ column kind there.
@@ -152,4 +152,5 @@ have_tuples kinds first rows fits typed = record {
   empty = λ none. all-map (λ (column : ColumnSummary). is_all_null column ≡ true) (λ column. column_summary (map (value_in column) rows)) (range_with_len 0 (length kinds))
       (λ column. ap (λ (rs : List (List KeyVal)). is_null (least (map (value_in column) rs))) (no-row rows none));
   bytes_are = refl;
+  size = (let same = tuple_size-anywhere kinds first (summary_of (length kinds) rows) in omega arith);
 }

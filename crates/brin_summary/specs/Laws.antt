@@ -7,7 +7,9 @@ use Rattle.pg_bytes.specs.Blocks.{block_at}
 use Rattle.opclass.specs.declared.value.KeyVal.{KeyVal}
 use Rattle.opclass.specs.declared.value.KeyVal.TheVariants.{Nil}
 use Rattle.opclass.specs.Order.{column_cmp}
+use Rattle.opclass.specs.Types.{facts_of, takes_key}
 use Rattle.opclass.specs.Values.{IsValueOf}
+use Rattle.opclass.specs.declared.types.Method.TheVariants.{Brin}
 use Rattle.opclass.specs.declared.types.ColType.{ColType}
 use Rattle.pg_bytes.specs.ItemPage.{lower_at, space_taken}
 use Rattle.pg_bytes.specs.PageLayout.{page_size}
@@ -88,10 +90,11 @@ TuplesTakeTheirRoom =
     (kinds : List ColType) (range : RangeSummary)
     → tuple_size kinds range ≤ 20 + length range.columns + sum_by room_of (bounds_of range.columns)
 
--- the summary of rows of these types has a tuple
+-- the summary of rows of these types has a tuple, unless it is too wide
 abbrev pub SummariesHaveTuples : Type 0
 SummariesHaveTuples =
     (kinds : List ColType) (first : ℕ) (rows : List (List KeyVal)) → first < 2 ^ 32 → All (AllZip IsValueOf kinds) rows
+    → tuple_size kinds (summary_of (length kinds) rows) ≤ tuple_most
     → IsRangeTuple kinds first (summary_of (length kinds) rows) (range_tuple kinds first (summary_of (length kinds) rows))
 
 -- a tuple begins with its header
@@ -105,6 +108,14 @@ abbrev pub HeadersAreToldApart : Type 0
 HeadersAreToldApart =
     (columns : ℕ) (one other : Header) (bytes : List ℕ) → columns ≤ 32
     → HasHeader columns one bytes → HasHeader columns other bytes → one ≡ other
+
+-- bytes are the tuple of one range, for types that BRIN takes as keys
+abbrev pub RangesAreToldApart : Type 0
+RangesAreToldApart =
+    (kinds : List ColType) (first other_first : ℕ) (range other : RangeSummary) (bytes : List ℕ)
+    → All (λ kind. takes_key Brin (facts_of kind).key_use ≡ true) kinds → length kinds ≤ 32
+    → IsRangeTuple kinds first range bytes → IsRangeTuple kinds other_first other bytes
+    → (first ≡ other_first) × (range ≡ other)
 
 -- a range whose tuple no page takes, behind ranges that all have room on one
 pub record IsLeastWide (kinds : List ColType) (ranges : List RangeSummary) (wide : Wide) : Type 0 where

@@ -1,6 +1,6 @@
 //! What holds of the summaries and of the file, whatever the rows are.
 
-ghost use Rattle.brin_summary.specs.Laws.{EachTupleHasAPointer, EntriesAreReadBack, FileHasItsPages, HeadersAreToldApart, JoinsAssociate, JoinsCommute, MetaIsReadBack, NoRowsHaveNoNull, OrderDoesNotMatter, OtherwiseAllHaveRoom, PagesAreFilled, PagesHaveTheirTypes, PagesHoldTheTuples, PagesHoldWhatFits, PointersLeadToTheTuples, RowsLieWithin, SameRowsHaveOneSummary, SummariesAreJoined, SummariesAreTight, SummariesHaveTuples, TheLeastWideIsTold, TuplesHaveTheirHeader, TuplesTakeTheirRoom};
+ghost use Rattle.brin_summary.specs.Laws.{EachTupleHasAPointer, EntriesAreReadBack, FileHasItsPages, HeadersAreToldApart, JoinsAssociate, JoinsCommute, MetaIsReadBack, NoRowsHaveNoNull, OrderDoesNotMatter, OtherwiseAllHaveRoom, PagesAreFilled, PagesHaveTheirTypes, PagesHoldTheTuples, PagesHoldWhatFits, PointersLeadToTheTuples, RangesAreToldApart, RowsLieWithin, SameRowsHaveOneSummary, SummariesAreJoined, SummariesAreTight, SummariesHaveTuples, TheLeastWideIsTold, TuplesHaveTheirHeader, TuplesTakeTheirRoom};
 
 /// The summary of rows and of others is their summaries joined.
 #[tactic(auto, using(crate::proofs::Joining::summary_of_append))]
@@ -57,7 +57,7 @@ pub fn tuples_take_their_room()
     ensures { TuplesTakeTheirRoom }
 {}
 
-/// The summary of rows of these types has a tuple.
+/// The summary of rows of these types has a tuple, unless it is too wide for a page.
 pub fn summaries_have_tuples()
     ensures { SummariesHaveTuples }
 {}
@@ -65,6 +65,11 @@ pub fn summaries_have_tuples()
 /// A range's tuple begins with its header.
 pub fn tuples_have_their_header()
     ensures { TuplesHaveTheirHeader }
+{}
+
+/// Bytes are the tuple of one range at most.
+pub fn ranges_are_told_apart()
+    ensures { RangesAreToldApart }
 {}
 
 /// Bytes begin with one header at most.

@@ -51,7 +51,8 @@
 //!   fields of a meta page. Pages are read as they were written (`pages_have_their_types`,
 //!   `meta_is_read_back`, `entries_are_read_back`).
 //! - Of tuples: the summary of rows has one (`summaries_have_tuples`), it begins with its header
-//!   (`tuples_have_their_header`), and bytes have one header at most (`headers_are_told_apart`).
+//!   (`tuples_have_their_header`), and bytes are the tuple of one range at most, with one header
+//!   (`ranges_are_told_apart`, `headers_are_told_apart`).
 //! - Of refusals: the range told is the least wide one (`the_least_wide_is_told`), and where none
 //!   is told there is none (`otherwise_all_have_room`). Who knows how long the bounds are knows the
 //!   most that a tuple takes (`tuples_take_their_room`).
@@ -82,9 +83,9 @@ pub use laws::{
     each_tuple_has_a_pointer, entries_are_read_back, file_has_its_pages, headers_are_told_apart,
     joins_associate, joins_commute, meta_is_read_back, no_rows_have_no_null, order_does_not_matter,
     otherwise_all_have_room, pages_are_filled, pages_have_their_types, pages_hold_the_tuples,
-    pages_hold_what_fits, pointers_lead_to_the_tuples, rows_lie_within, same_rows_have_one_summary,
-    summaries_are_joined, summaries_are_tight, summaries_have_tuples, the_least_wide_is_told,
-    tuples_have_their_header, tuples_take_their_room,
+    pages_hold_what_fits, pointers_lead_to_the_tuples, ranges_are_told_apart, rows_lie_within,
+    same_rows_have_one_summary, summaries_are_joined, summaries_are_tight, summaries_have_tuples,
+    the_least_wide_is_told, tuples_have_their_header, tuples_take_their_room,
 };
 pub use meta::Meta;
 pub use page::{REVMAP_ITEMS, revmap_entry};

@@ -15,3 +15,8 @@ mod Scalars
 mod ScalarPieces
 -- what the pass that reads the data keeps
 mod ReadPass
+-- one number, one value and one list of values at most have the same bytes
+mod OneNumber
+mod OneValue
+-- cited by the crates above
+pub mod OneReading

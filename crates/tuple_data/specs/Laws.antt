@@ -1,9 +1,10 @@
 -- What holds of the data, whatever the values are.
-use Rattle.std.specs.Prelude.{◌≡◌, ℕ, ◌+◌, ◌≤◌, List, ◌++◌, length, take, sum_by}
+use Rattle.std.specs.Prelude.{◌≡◌, ℕ, ◌+◌, ◌^◌, ◌<◌, ◌≤◌, List, ◌++◌, length, take, sum_by}
 use Rattle.opclass.specs.declared.types.ColType.{ColType}
 use Rattle.opclass.specs.declared.value.KeyVal.{KeyVal}
 use Rattle.opclass.specs.declared.value.KeyVal.TheVariants.{Nil, Num, Raw, Items}
 use Rattle.tuple_data.specs.Data.{data_from, data_of}
+use Rattle.tuple_data.specs.Reading.{BeginsWithData}
 
 -- the data of columns and of those behind them are the data of them all
 abbrev pub ColumnsBehindFollow : Type 0
@@ -29,3 +30,9 @@ room_of (Items elements) = 0
 abbrev pub DataTakeTheirRoom : Type 0
 DataTakeTheirRoom =
     (kinds : List ColType) (values : List KeyVal) → length (data_of kinds values) ≤ sum_by room_of values
+
+-- one list of values at most has its data in front of the same bytes
+abbrev pub ValuesAreToldApart : Type 0
+ValuesAreToldApart =
+    (kinds : List ColType) (bits : ℕ) (bytes : List ℕ) (values others : List KeyVal) → length bytes < 2 ^ 30
+    → BeginsWithData kinds bits bytes values → BeginsWithData kinds bits bytes others → values ≡ others

@@ -4,7 +4,7 @@ pub mod Datum
 pub mod Data
 -- what a tuple's header says of its values
 pub mod Nulls
+-- the values that bytes are the data of
+pub mod Reading
 -- what holds of all these
 pub mod Laws
--- what is read of the data
-pub mod Reading

@@ -1,14 +1,15 @@
 -- What is read of the data of a tuple (nocache_index_getattr and index_deform_tuple of indextuple.c).
-use Rattle.std.specs.Prelude.{◌≡◌, ◌⊎◌, ◌≤◌, ℕ, ℤ, ⊤, false, Option, Some, None, List, length, take, drop}
+use Rattle.std.specs.Prelude.{◌≡◌, ◌⊎◌, ◌≤◌, ℕ, ℤ, ⊤, false, Option, Some, None, List, length, take, drop, All}
 use Rattle.std.specs.List.{AllZip}
 use denote.Ref.{Bor}
 use Rattle.std.specs.Int.{w64, cast_unsigned}
 use Rattle.pg_bytes.specs.Numbers.{number_bytes}
 use Rattle.opclass.specs.declared.types.ColType.{ColType}
 use Rattle.opclass.specs.declared.types.Form.{Form}
-use Rattle.opclass.specs.declared.types.Form.TheVariants.{Truth, Signed, Unsigned}
+use Rattle.opclass.specs.declared.types.Form.TheVariants.{Truth, Signed, Unsigned, Array}
 use Rattle.opclass.specs.declared.value.KeyVal.{KeyVal}
 use Rattle.opclass.specs.declared.value.KeyVal.TheVariants.{Num, Raw, Items}
+use Rattle.opclass.specs.Types.{facts_of}
 use Rattle.opclass.specs.Values.{IsValueOf}
 use Rattle.tuple_data.specs.Data.{data_of}
 use Rattle.tuple_data.specs.Datum.{piece_at}
@@ -20,6 +21,15 @@ use Rattle.tuple_data.specs.declared.scalar.Scalar.TheVariants.{Number, Bytes}
 abbrev pub IsScalarOf : ColType → KeyVal → Type 0
 IsScalarOf kind (Items elements) = ⊥
 IsScalarOf kind value = IsValueOf kind value
+
+-- a form whose values stand in an index tuple, so no array's
+abbrev pub IsStored : Form → Type 0
+IsStored (Array element) = ⊥
+IsStored form = ⊤
+
+-- no column is an array
+abbrev pub AreStored : List ColType → Type 0
+AreStored kinds = All (λ kind. IsStored (facts_of kind).form) kinds
 
 -- Bytes begin with the data of these values, of these types. Which of them are null is said by the null bitmap.
 pub record BeginsWithData (kinds : List ColType) (bits : ℕ) (bytes : List ℕ) (values : List KeyVal) : Type 0 where

@@ -1,6 +1,6 @@
 //! What holds of the data of tuples, whatever the values are.
 
-ghost use Rattle.tuple_data.specs.Laws.{ColumnsBehindFollow, DataTakeTheirRoom, FrontColumnsHaveTheFront};
+ghost use Rattle.tuple_data.specs.Laws.{ColumnsBehindFollow, DataTakeTheirRoom, FrontColumnsHaveTheFront, ValuesAreToldApart};
 
 /// The data of columns and of those behind them are the data of them all.
 pub fn columns_behind_follow()
@@ -17,4 +17,11 @@ pub fn front_columns_have_the_front()
 /// who knows the lengths of the values knows that the data's size has its limits.
 pub fn data_take_their_room()
     ensures { DataTakeTheirRoom }
+{}
+
+/// Bytes begin with the data of one list of values at most, once the types and the null bits are
+/// known. The bytes are fewer than 2^30, above which a header of four bytes has no room for a
+/// length (`varatt.h`).
+pub fn values_are_told_apart()
+    ensures { ValuesAreToldApart }
 {}

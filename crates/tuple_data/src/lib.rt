@@ -33,7 +33,10 @@ mod reading;
 mod scalar;
 
 pub use data::{data_size, put_data};
-pub use laws::{columns_behind_follow, data_take_their_room, front_columns_have_the_front};
+pub use laws::{
+    columns_behind_follow, data_take_their_room, front_columns_have_the_front,
+    values_are_told_apart,
+};
 pub use nulls::{has_null, has_variable, null_bits};
 pub use reading::read_data;
 pub use scalar::Scalar;

@@ -1,4 +1,4 @@
-use Rattle.std.proofs.Common.{◌≡◌, ◌∷◌, ◌%◌, ◌/◌, ◌^◌, ℕ, List, length, nat_eq, refl, ap, subst, sym, ◌∙◌, arith, All}
+use Rattle.std.proofs.Common.{◌≡◌, ◌∷◌, ◌%◌, ◌/◌, ◌^◌, List, length, nat_eq, refl, ap, subst, sym, ◌∙◌, arith, All}
 use Rattle.std.proofs.lemmas.List.Elements.{All-push}
 use Rattle.std.specs.Vec.Iter.{into_iter_items}
 use Rattle.opclass.specs.declared.value.KeyVal.{KeyVal}

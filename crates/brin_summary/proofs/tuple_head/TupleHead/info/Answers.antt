@@ -1,4 +1,4 @@
-use Rattle.std.proofs.Common.{◌≡◌, ℕ, ◌+◌, if◌then◌else◌, ap, sym, ◌∙◌, arith}
+use Rattle.std.proofs.Common.{◌≡◌, if◌then◌else◌, ◌∙◌, arith}
 use Rattle.brin_summary.proofs.Headers.{info-none, info-some}
 use Rattle.brin_summary.proofs.tuple_head.TupleHead.info.Goals as goal
 use Rattle.brin_summary.proofs.tuple_head.TupleHead.info.Goals.{then-self, else-self, then-self-eq0, else-self-eq0}

@@ -1,4 +1,4 @@
-use Rattle.std.proofs.Common.{◌≡◌, ◌≤◌, ◌-◌, ◌/◌, ◌%◌, ◌^◌, nat_eq, if◌then◌else◌, sym, ◌∙◌, arith}
+use Rattle.std.proofs.Common.{◌≡◌, ◌≤◌, ◌-◌, ◌/◌, ◌%◌, ◌^◌, nat_eq, if◌then◌else◌, arith}
 use Rattle.brin_summary.proofs.RangeReading.{pair-none, pair-there, present-fits, present-step}
 use Rattle.brin_summary.proofs.tuple_head.TupleHead.present.Goals as goal
 use Rattle.brin_summary.proofs.tuple_head.TupleHead.present.Goals.{then-self-at-eq1, else-self-at-eq1}

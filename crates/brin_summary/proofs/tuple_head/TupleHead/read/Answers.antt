@@ -1,4 +1,4 @@
-use Rattle.std.proofs.Common.{◌≡◌, List, ℕ, ◌*◌, take, sym, ap, subst, ◌∙◌, arith}
+use Rattle.std.proofs.Common.{◌≡◌, ℕ, ◌*◌, take, sym, ap, subst, ◌∙◌, arith}
 use Rattle.std.specs.Cmp.Lexicographic.{other_text, same_text}
 use Rattle.brin_summary.proofs.Headers.{determined, length-flags_of}
 use Rattle.brin_summary.specs.Pass.{seen_header}
