@@ -1,5 +1,5 @@
-//! Tests of `opclass`, `tuple_data`, `btree_item`, `brin_summary`, `gin_entry` and
-//! `posting_tree`.
+//! Tests of `opclass`, `tuple_data`, `btree_item`, `brin_summary`, `gin_entry`, `posting_tree` and
+//! `gin_file`.
 //!
 //! A crate with tests is proved a second time with them, so they stand apart from what they try.
 //! There is no other code here.
@@ -8,6 +8,8 @@
 
 #[cfg(test)]
 mod entries;
+#[cfg(test)]
+mod entry_tuples;
 #[cfg(test)]
 mod items;
 #[cfg(test)]
