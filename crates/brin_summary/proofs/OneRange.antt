@@ -92,7 +92,7 @@ begins kinds first range bytes is =
       «data» = data-behind kinds first range bytes is;
     }
 
-same-range : (a b : RangeSummary) → a.has_rows ≡ b.has_rows → a.columns ≡ b.columns → a ≡ b
+pub same-range : (a b : RangeSummary) → a.has_rows ≡ b.has_rows → a.columns ≡ b.columns → a ≡ b
 same-range a b rows columns =
     ap (λ (r : Bool). let s : RangeSummary = record { has_rows = r; columns = a.columns } in s) rows
     ∙ ap (λ (l : List ColumnSummary). let s : RangeSummary = record { has_rows = b.has_rows; columns = l } in s) columns
