@@ -91,7 +91,7 @@ pub use laws::{
 pub use meta::Meta;
 pub use page::{REVMAP_ITEMS, revmap_entry};
 pub use range_tuple::{RangeCol, RangeCols, RangeTuple};
-pub use reading::read_range;
 pub use ranges::{RangeParts, SummedRange, SummedRanges};
+pub use reading::read_range;
 pub use special::PageType;
 pub use summary::{Summaries, Summary};

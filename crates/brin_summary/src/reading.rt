@@ -84,7 +84,12 @@ fn is_padded(bytes: &[u8], size: usize) -> bool
     requires few { length bytes.now ≤ 8152 }
     ensures { IsTrue result ↔ (drop size bytes.now ≡ zeros (rounded_up 8 size - size)) }
 {
-    bytes.len() == al8(size as u64) as usize && bytes[size..].iter().all(|byte| *byte == 0)
+    let end = al8(size as u64) as usize;
+    let zeros = [0u8; 8];
+    if bytes.len() != end {
+        return false;
+    }
+    bytes[size..] == zeros[..end - size]
 }
 
 // Stands in for the call of tuple_data until it is there.

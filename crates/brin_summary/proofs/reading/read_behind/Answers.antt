@@ -112,9 +112,9 @@ returns-clause-some c =
     ≡ zeros (rounded_up 8 (length (data_of (bound_kinds c.args.kinds.now) c.in-Some.bounds.items)) - length (data_of (bound_kinds c.args.kinds.now) c.in-Some.bounds.items)) =
     rw (← size, ← rest) padded in
     let empty : c.args.head.now.has_rows ≡ false → present_of (flags_of (length c.args.kinds.now) c.args.head.now.bits) ≡ 0 =
-    λ none. elim c.else-not-head.branch
-    [ else-not-head-via-then-not-head+else-present-ne0 w ↦ (let e = w.if-present-ne0.false in sym c.present-present.ensures ∙ omega arith)
-    | else-not-head-via-else-not-head w ↦ (let e = w.if-not-head.false in absurd (cc))
+    λ none. elim c.else-not-head.branch [
+      | else-not-head-via-then-not-head+else-present-ne0 w ↦ (let e = w.if-present-ne0.false in sym c.present-present.ensures ∙ omega arith)
+      | else-not-head-via-else-not-head w ↦ (let e = w.if-not-head.false in absurd (cc))
     ] in
     let columns : columns_from c.in-Some.bounds.items (flags_of (length c.args.kinds.now) (c.args.head.now.bits / 2 ^ length c.args.kinds.now)) ≡ map column_read c.in_ok-columns_with.field-0 =
     ap (λ (n : ℕ). columns_from c.in-Some.bounds.items (flags_of (length c.args.kinds.now) n)) (sym c.has_nulls.ensures) ∙ sym c.in_ok-columns_with.ensures.value in
