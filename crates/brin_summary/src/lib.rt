@@ -28,8 +28,8 @@
 //!
 //! # How a file is read
 //!
-//! `PageType::of`, `Meta::read` and `revmap_entry` read pages, and take no memory. A tuple's header is
-//! read field by field at their places, and then the header of these fields is compared with the
+//! `PageType::of`, `Meta::read` and `revmap_entry` read pages, and take no memory. A tuple's header
+//! is read field by field at their places, and then the header of these fields is compared with the
 //! bytes: so no rule of its layout is written a second time as a test.
 //!
 //! # What it promises
