@@ -19,7 +19,8 @@ use Rattle.opclass.specs.Types.{facts_of}
 use Rattle.opclass.specs.Values.{IsArrayOf, IsBytesOf, IsNumberOf, IsValueOf}
 use Rattle.tuple_data.specs.Datum.{datum_of, long_header, number_datum, padding, short_header, stored_at, variable_datum}
 use Rattle.tuple_data.specs.Nulls.{is_null}
-use Rattle.tuple_data.proofs.OneNumber.{IsFit, front_once, low_once, number_once}
+use Rattle.tuple_data.specs.Reading.{IsFit}
+use Rattle.tuple_data.proofs.OneNumber.{front_once, low_once, number_once}
 use Rattle.tuple_data.proofs.Pieces.{length-variable, stored_at-long, stored_at-narrow, stored_at-short, variable-below}
 
 -- what stands behind the same zeros
@@ -63,7 +64,7 @@ long_once x y b c fits fits' e =
     let same : length x ≡ length y = omega arith in
     front_once x y b c same (append_cancel_left here (x ++ b) (y ++ c) (whole ∙ ap (λ (h : List ℕ). h ++ (y ++ c)) (sym headers)))
 
-fits_header : (place : ℕ) (bytes rest : List ℕ) → length (stored_at place (Some (variable_datum bytes)) ++ rest) < 2 ^ 30
+pub fits_header : (place : ℕ) (bytes rest : List ℕ) → length (stored_at place (Some (variable_datum bytes)) ++ rest) < 2 ^ 30
     → length bytes < 1073741820
 fits_header place bytes rest fits =
     let both = length-append (stored_at place (Some (variable_datum bytes))) rest in

@@ -25,11 +25,15 @@
 //! above. Arrays take no place here: no index tuple has one.
 #![tactic(auto)]
 
+mod attribute;
+mod content;
 mod data;
 mod datum;
 mod laws;
 mod nulls;
+mod number;
 
+pub use attribute::Attribute;
 pub use data::{data_size, put_data};
 pub use laws::{
     columns_behind_follow, data_take_their_room, front_columns_have_the_front,
