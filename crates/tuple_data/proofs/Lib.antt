@@ -17,3 +17,4 @@ pub mod OneReading
 pub mod ReadNumber
 pub mod ReadContent
 pub mod ReadVariable
+pub mod ReadPiece

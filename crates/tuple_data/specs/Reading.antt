@@ -1,7 +1,9 @@
 -- The values that bytes are the data of (index_deform_tuple of indextuple.c). Beside the bytes, the null bitmap says which
 -- of the columns have a value.
-use Rattle.std.specs.Prelude.{◌≡◌, ◌⊎◌, ℕ, false, ⊤, List, ◌++◌, All}
+use Rattle.std.specs.Prelude.{◌≡◌, ◌⊎◌, ℕ, false, ⊤, List, ◌++◌, length, All}
 use Rattle.std.specs.List.{AllZip}
+use Rattle.std.specs.Int.{w64, cast_unsigned}
+use Rattle.pg_bytes.specs.Numbers.{number_bytes}
 use Rattle.opclass.specs.declared.types.ColType.{ColType}
 use Rattle.opclass.specs.declared.types.Form.{Form}
 use Rattle.opclass.specs.declared.types.Form.TheVariants.{Truth, Signed, Unsigned, Bytes, Array}
@@ -10,7 +12,7 @@ use Rattle.opclass.specs.declared.types.Width.TheVariants.{Fixed}
 use Rattle.opclass.specs.declared.value.KeyVal.{KeyVal}
 use Rattle.opclass.specs.declared.value.KeyVal.TheVariants.{Nil, Num, Raw}
 use Rattle.opclass.specs.Types.{facts_of}
-use Rattle.opclass.specs.Values.{IsValueOf}
+use Rattle.opclass.specs.Values.{IsBytesOf, IsNumberOf, IsValueOf}
 use Rattle.tuple_data.specs.Data.{data_of}
 use Rattle.tuple_data.specs.Datum.{piece_at}
 use Rattle.tuple_data.specs.Nulls.{is_null, null_bits}
@@ -39,6 +41,13 @@ abbrev pub value_of : Attribute → KeyVal
 value_of attribute.Null = Nil
 value_of (attribute.Number number) = Num number
 value_of (attribute.Bytes bytes) = Raw bytes.now
+
+-- the value of this form and of a fixed width that all of the bytes are
+abbrev pub IsContent : Form → List ℕ → KeyVal → Type 0
+IsContent form bytes (Num number) =
+    IsNumberOf form (Fixed (length bytes)) number × (bytes ≡ number_bytes (length bytes) (cast_unsigned w64 number))
+IsContent form bytes (Raw own) = IsBytesOf form (Fixed (length bytes)) own × (bytes ≡ own)
+IsContent form bytes other = ⊥
 
 -- from a place on the bytes are those of this value, which isn't null, and what stands behind it
 pub record BeginsWithValue (place : ℕ) (kind : ColType) (bytes : List ℕ) (value : KeyVal) (behind : List ℕ) : Type 0 where

@@ -32,6 +32,7 @@ mod datum;
 mod laws;
 mod nulls;
 mod number;
+mod piece;
 
 pub use attribute::Attribute;
 pub use data::{data_size, put_data};
