@@ -18,3 +18,4 @@ pub mod ReadNumber
 pub mod ReadContent
 pub mod ReadVariable
 pub mod ReadPiece
+pub mod ReadList

@@ -1,6 +1,6 @@
 -- The values that bytes are the data of (index_deform_tuple of indextuple.c). Beside the bytes, the null bitmap says which
 -- of the columns have a value.
-use Rattle.std.specs.Prelude.{◌≡◌, ◌⊎◌, ℕ, false, ⊤, List, ◌++◌, length, All}
+use Rattle.std.specs.Prelude.{◌≡◌, ◌⊎◌, ℕ, if◌then◌else◌, false, ⊤, List, ◌++◌, length, All}
 use Rattle.std.specs.List.{AllZip}
 use Rattle.std.specs.Int.{w64, cast_unsigned}
 use Rattle.pg_bytes.specs.Numbers.{number_bytes}
@@ -53,6 +53,12 @@ IsContent form bytes other = ⊥
 pub record BeginsWithValue (place : ℕ) (kind : ColType) (bytes : List ℕ) (value : KeyVal) (behind : List ℕ) : Type 0 where
   pub typed : IsValueOf kind value
   pub there : is_null value ≡ false
+  pub «data» : bytes ≡ piece_at place kind value ++ behind
+
+-- the same of a value whose null bit is this; a null takes no bytes
+pub record IsNext (place : ℕ) (kind : ColType) (present : ℕ) (bytes : List ℕ) (value : KeyVal) (behind : List ℕ) : Type 0 where
+  pub typed : IsValueOf kind value
+  pub bit : (if is_null value then 0 else 1) ≡ present
   pub «data» : bytes ≡ piece_at place kind value ++ behind
 
 -- the bytes begin with the data of these values, and exactly those that the null bits name aren't null

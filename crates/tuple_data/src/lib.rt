@@ -19,6 +19,11 @@
 //! before. `has_null`, `has_variable` and `null_bits` answer what a tuple's header says of its
 //! values.
 //!
+//! `read_data` is the way back: of types and null bits it gives the one list of values whose data
+//! the bytes begin with, and None exactly where there is no such list. So a byte between values
+//! that isn't zero, or a long header where a short one has room, is refused. That there is at most
+//! one such list is `values_are_told_apart`.
+//!
 //! # What is not
 //!
 //! The tuple around the data, with its header, bitmap and size, is the business of the crates
@@ -33,6 +38,7 @@ mod laws;
 mod nulls;
 mod number;
 mod piece;
+mod reading;
 
 pub use attribute::Attribute;
 pub use data::{data_size, put_data};
@@ -41,3 +47,4 @@ pub use laws::{
     values_are_told_apart,
 };
 pub use nulls::{has_null, has_variable, null_bits};
+pub use reading::read_data;
