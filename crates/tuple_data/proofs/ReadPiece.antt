@@ -12,7 +12,9 @@ use Rattle.opclass.specs.declared.types.Width.{Width}
 use Rattle.opclass.specs.declared.types.Width.TheVariants.{Fixed, Variable}
 use Rattle.opclass.specs.declared.value.KeyVal.{KeyVal}
 use Rattle.opclass.specs.declared.value.KeyVal.TheVariants.{Nil, Num, Raw, Items}
-use Rattle.opclass.specs.Types.{facts_of}
+use Rattle.opclass.specs.declared.types.ColType.TheVariants as ty
+use Rattle.opclass.specs.declared.types.Method.TheVariants.{BTree}
+use Rattle.opclass.specs.Types.{facts_of, takes_key}
 use Rattle.opclass.specs.Values.{IsBytesOf, IsNumberOf, IsValueOf}
 use Rattle.tuple_data.specs.Datum.{datum_of, padding, stored_at, variable_datum}
 use Rattle.tuple_data.specs.Nulls.{is_null}
@@ -136,3 +138,30 @@ pub known_stands : (kind : ColType) (facts : TypeFacts) (width : Width) (place :
 known_stands kind facts width place bytes value behind told is begins =
     subst (λ (w : Width). Stands facts.form w facts.alignment place bytes value behind) is
     (subst (λ (f : TypeFacts). Stands f.form f.width f.alignment place bytes value behind) (sym told) (stands_of kind place bytes value behind begins))
+
+-- a key of a B-tree index is no array
+pub keys_are_stored : (kind : ColType) → takes_key BTree (facts_of kind).key_use ≡ true → IsStored (facts_of kind).form
+keys_are_stored ty.Int4Array taken = cc
+keys_are_stored ty.Int8Array taken = cc
+keys_are_stored ty.TextArray taken = cc
+keys_are_stored ty.Bool taken = tt
+keys_are_stored ty.Int2 taken = tt
+keys_are_stored ty.Int4 taken = tt
+keys_are_stored ty.Int8 taken = tt
+keys_are_stored ty.Oid taken = tt
+keys_are_stored ty.Date taken = tt
+keys_are_stored ty.Timestamp taken = tt
+keys_are_stored ty.Timestamptz taken = tt
+keys_are_stored ty.Time taken = tt
+keys_are_stored ty.Uuid taken = tt
+keys_are_stored ty.Text taken = tt
+keys_are_stored ty.Varchar taken = tt
+keys_are_stored ty.Bytea taken = tt
+keys_are_stored ty.Float4 taken = tt
+keys_are_stored ty.Float8 taken = tt
+keys_are_stored ty.Numeric taken = tt
+keys_are_stored ty.Bpchar taken = tt
+keys_are_stored ty.Name taken = tt
+keys_are_stored ty.Interval taken = tt
+keys_are_stored ty.Json taken = tt
+keys_are_stored ty.Jsonb taken = tt
