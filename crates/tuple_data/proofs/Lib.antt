@@ -13,3 +13,9 @@ pub mod PutPass
 pub mod OneNumber
 pub mod OneValue
 pub mod OneReading
+-- the values that are read
+pub mod ReadNumber
+pub mod ReadContent
+pub mod ReadVariable
+pub mod ReadPiece
+pub mod ReadList

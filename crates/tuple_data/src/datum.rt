@@ -11,12 +11,12 @@ use std::alloc::AllocError;
 const NUMBER_MOST: u8 = 8;
 
 // The most bytes that stand under a header of one byte.
-const SHORT_MOST: usize = 126;
+pub(crate) const SHORT_MOST: usize = 126;
 
 // The bytes of a long header, and the multiple at which it stands.
-const LONG_HEADER: u64 = 4;
+pub(crate) const LONG_HEADER: u64 = 4;
 
-const LONG_ALIGNMENT: u8 = 4;
+pub(crate) const LONG_ALIGNMENT: u8 = 4;
 
 // Where a value of a column ends that begins behind so many bytes (`heap_compute_data_size` of
 // `heaptuple.c`).
@@ -63,7 +63,7 @@ fn end_of_variable(place: u64, count: u64) -> u64
 }
 
 // The next multiple of an alignment (`att_align_nominal` of `tupmacs.h`).
-fn aligned(place: u64, alignment: u8) -> u64
+pub(crate) fn aligned(place: u64, alignment: u8) -> u64
     requires known { IsAlignment alignment }
     requires fits { place < 2 ^ 63 }
     ensures { result ≡ rounded_up alignment place }
