@@ -47,6 +47,8 @@
 //!   regular pages have exactly the tuples (`pages_hold_the_tuples`), no more than fits
 //!   (`pages_hold_what_fits`) and no fewer (`pages_are_filled`). Each range has one pointer, which
 //!   leads to its tuple (`each_tuple_has_a_pointer`, `pointers_lead_to_the_tuples`).
+//! - Unless memory runs out, `read_range` gives the one tuple that has these bytes, with any has-nulls
+//!   bits, and None exactly where there is none.
 //! - Of reading: `PageType::of` and `Meta::read` answer exactly where a page has that type and the
 //!   fields of a meta page. Pages are read as they were written (`pages_have_their_types`,
 //!   `meta_is_read_back`, `entries_are_read_back`).

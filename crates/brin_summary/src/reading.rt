@@ -6,7 +6,7 @@ ghost use Rattle.pg_bytes.specs.Places.{zeros};
 ghost use Rattle.opclass.specs.Types.{facts_of, takes_key};
 ghost use Rattle.opclass.specs.declared.types.Method.TheVariants.{Brin};
 ghost use Rattle.opclass.specs.declared.value.KeyVal.{KeyVal};
-ghost use Rattle.tuple_data.specs.Reading.{BeginsWithData};
+ghost use Rattle.tuple_data.specs.Reading.{AreStored, BeginsWithData};
 ghost use Rattle.brin_summary.specs.Pass.{seen_header};
 ghost use Rattle.brin_summary.specs.Reading.{HasHeader, IsRangeTuple, IsReadAs};
 ghost use Rattle.brin_summary.specs.Summary.{RangeSummary};
@@ -17,7 +17,7 @@ use crate::tuple_head::TupleHead;
 use opclass::{ColType, KeyVal, Kinds};
 use pg_bytes::al8;
 use std::alloc::{AllocError, Global};
-use tuple_data::data_size;
+use tuple_data::{data_size, read_data};
 
 /// The tuple of a range that has these bytes, for columns of these types, with any has-nulls bits
 /// (`brin_deform_tuple` of `brin_tuple.c`). None comes exactly where there is none.
@@ -65,7 +65,7 @@ fn read_behind(
     }
     let twice = BoundKinds::of(alloc, kinds)?;
     let behind = &bytes[head.data_place(columns)..];
-    let Some(bounds) = read_data(alloc, twice.twice(), present, behind)? else {
+    let Some(bounds) = read_bounds(alloc, twice.twice(), present, behind)? else {
         return Ok(None);
     };
     if !is_padded(behind, data_size(twice.twice(), &bounds) as usize) {
@@ -92,17 +92,22 @@ fn is_padded(bytes: &[u8], size: usize) -> bool
     bytes[size..] == zeros[..end - size]
 }
 
-// Stands in for the call of tuple_data until it is there.
-fn read_data(
+// The bounds whose data the bytes begin with, as `read_data` reads them.
+fn read_bounds(
     alloc: Global,
     kinds: &[ColType],
     present: u64,
     bytes: &[u8],
 ) -> Result<Option<Vec<KeyVal>>, AllocError>
+    requires kinds { AreStored kinds.now }
+    requires size { length bytes.now < 2 ^ 30 }
     ensures some { IfOk result (λ read. IfSome read
         (λ values. BeginsWithData kinds.now present bytes.now values.items)) }
     ensures none { IfOk result (λ read. IsNone read → (values : List KeyVal)
         → BeginsWithData kinds.now present bytes.now values → ⊥) }
 {
-    Ok(None)
+    match read_data(alloc, kinds, present, bytes)? {
+        Some(values) => Ok(Some(values.into_vec())),
+        None => Ok(None),
+    }
 }

@@ -124,3 +124,8 @@ returns-clause-some c =
           (read-is c.args.kinds.now c.args.head.now bytes c.in-Some.bounds.items c.requires.header c.requires.size empty has behind);
       called = c.in_ok-columns_with.ensures.called;
     }
+
+pub read_bounds-requires-clause-kinds : goal.read_bounds-requires-clause-kinds
+read_bounds-requires-clause-kinds c =
+    let kinds_are : c.twice-2.result.now ≡ bound_kinds c.args.kinds.now = c.twice-2.ensures ∙ ap bound_kinds c.in_ok-twice.ensures in
+    rw kinds_are (bounds-stored c.args.kinds.now c.requires.kinds)
