@@ -21,7 +21,7 @@ use Rattle.brin_summary.specs.Tuple.{bound_kinds, bounds_of, header_bytes, heade
 
 -- ---- a tuple's header
 
-length-bound_kinds : (kinds : List ColType) → length (bound_kinds kinds) ≡ 2 * length kinds
+pub length-bound_kinds : (kinds : List ColType) → length (bound_kinds kinds) ≡ 2 * length kinds
 length-bound_kinds [] = refl
 length-bound_kinds (kind ∷ kinds) = let rest = length-bound_kinds kinds in omega arith
 

@@ -95,7 +95,8 @@ abbrev pub SummariesHaveTuples : Type 0
 SummariesHaveTuples =
     (kinds : List ColType) (first : ℕ) (rows : List (List KeyVal)) → first < 2 ^ 32 → All (AllZip IsValueOf kinds) rows
     → tuple_size kinds (summary_of (length kinds) rows) ≤ tuple_most
-    → IsRangeTuple kinds first (summary_of (length kinds) rows) (range_tuple kinds first (summary_of (length kinds) rows))
+    → IsRangeTuple kinds first (summary_of (length kinds) rows)
+    (range_tuple kinds first (summary_of (length kinds) rows))
 
 -- a tuple begins with its header
 abbrev pub TuplesHaveTheirHeader : Type 0

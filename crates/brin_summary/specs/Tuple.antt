@@ -49,7 +49,8 @@ pub record Header : Type 0 where
 
 -- the null bitmap, which is there where a flag is set; unlike in other tuples a set bit means null
 unfoldable pub bitmap_of : List Bool → List ℕ
-bitmap_of flags = if list_any (λ flag. flag) flags then number_bytes (bitmap_size (length flags)) (bits_of flags) else []
+bitmap_of flags =
+    if list_any (λ flag. flag) flags then number_bytes (bitmap_size (length flags)) (bits_of flags) else []
 
 -- where the data begin behind a header with these flags
 abbrev pub place_behind : List Bool → ℕ

@@ -28,8 +28,8 @@
 //!
 //! # How a file is read
 //!
-//! `PageType::of`, `Meta::read` and `revmap_entry` read pages, and take no memory. A tuple's header is
-//! read field by field at their places, and then the header of these fields is compared with the
+//! `PageType::of`, `Meta::read` and `revmap_entry` read pages, and take no memory. A tuple's header
+//! is read field by field at their places, and then the header of these fields is compared with the
 //! bytes: so no rule of its layout is written a second time as a test.
 //!
 //! # What it promises
@@ -47,6 +47,8 @@
 //!   regular pages have exactly the tuples (`pages_hold_the_tuples`), no more than fits
 //!   (`pages_hold_what_fits`) and no fewer (`pages_are_filled`). Each range has one pointer, which
 //!   leads to its tuple (`each_tuple_has_a_pointer`, `pointers_lead_to_the_tuples`).
+//! - Unless memory runs out, `read_range` gives the one tuple that has these bytes, with any has-nulls
+//!   bits, and None exactly where there is none.
 //! - Of reading: `PageType::of` and `Meta::read` answer exactly where a page has that type and the
 //!   fields of a meta page. Pages are read as they were written (`pages_have_their_types`,
 //!   `meta_is_read_back`, `entries_are_read_back`).
@@ -71,6 +73,7 @@ mod meta;
 mod page;
 mod range_tuple;
 mod ranges;
+mod reading;
 mod regular;
 mod revmap;
 mod special;
@@ -91,5 +94,6 @@ pub use meta::Meta;
 pub use page::{REVMAP_ITEMS, revmap_entry};
 pub use range_tuple::{RangeCol, RangeCols, RangeTuple};
 pub use ranges::{RangeParts, SummedRange, SummedRanges};
+pub use reading::read_range;
 pub use special::PageType;
 pub use summary::{Summaries, Summary};

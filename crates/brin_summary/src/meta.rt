@@ -27,8 +27,8 @@ pub struct Meta {
 }
 
 impl Meta {
-    /// What a page has where its fields are those of a meta page: page type, flags, `pd_lower`, magic
-    /// and version. None comes exactly where they aren't.
+    /// What a page has where its fields are those of a meta page: page type, flags, `pd_lower`,
+    /// magic and version. None comes exactly where they aren't.
     pub fn read(page: &Page) -> Option<Meta>
         ensures { (meta : Meta) → (result ≡ Some meta) ↔ IsMetaOf page.now meta }
     {

@@ -35,7 +35,8 @@ pub struct RangeTuple {
     pub columns: RangeCols,
 }
 
-/// The columns with these bounds, which stand pair by pair, and with the has-nulls bits of a number.
+/// The columns with these bounds, which stand pair by pair, and with the has-nulls bits of a
+/// number.
 pub fn columns_with(
     alloc: Global,
     columns: usize,

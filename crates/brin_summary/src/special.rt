@@ -38,8 +38,8 @@ impl PageType {
         }
     }
 
-    /// The type of a page, by its special space (`BrinPageType`). None comes exactly where it has the
-    /// number of no type.
+    /// The type of a page, by its special space (`BrinPageType`). None comes exactly where it has
+    /// the number of no type.
     pub fn of(page: &Page) -> Option<PageType>
         ensures { (page_type : PageType) → (result ≡ Some page_type) ↔ HasType page_type page.now }
     {

@@ -4,7 +4,7 @@ ghost use Rattle.pg_bytes.specs.Numbers.{number_bytes};
 ghost use Rattle.pg_bytes.specs.PageLayout.{aligned};
 ghost use Rattle.brin_summary.specs.Answer.{tuple_size};
 ghost use Rattle.brin_summary.specs.Pass.{bits_behind, low_nulls};
-ghost use Rattle.brin_summary.specs.Tuple.{bits_of, data_place, info_byte, null_bitmap, null_flags, range_tuple, tuple_header};
+ghost use Rattle.brin_summary.specs.Tuple.{bits_of, bound_kinds, data_place, info_byte, null_bitmap, null_flags, range_tuple, tuple_header};
 
 use crate::bound::is_null;
 use crate::summary::Summary;
@@ -56,6 +56,13 @@ impl BoundKinds {
             twice.push(*kind)?;
         }
         Ok(BoundKinds { twice })
+    }
+
+    /// The types, that of each column twice.
+    pub fn twice(&self) -> &[ColType]
+        ensures { result.now ≡ bound_kinds self.now }
+    {
+        &self.twice
     }
 
     /// The bytes of a range's tuple. It takes no memory.

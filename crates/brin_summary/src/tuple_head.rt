@@ -38,6 +38,7 @@ impl TupleHead {
         requires columns { columns ≤ 32 }
         ensures some { IfSome result
             (λ head. HasHeader columns (seen_header columns head) bytes.now) }
+        ensures few { IfSome result (λ head. head.bits < 2 ^ (2 * columns)) }
         ensures none { IsNone result → (header : Header) → HasHeader columns header bytes.now → ⊥ }
     {
         let head = TupleHead::in_front(columns, bytes)?;

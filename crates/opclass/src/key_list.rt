@@ -39,6 +39,14 @@ impl KeyList {
         }
     }
 
+    /// Gives the vector of values back, which takes no memory.
+    pub fn into_vec(self) -> Vec<KeyVal>
+        ensures { result.items ≡ self }
+    {
+        let KeyList { values } = self;
+        values.into_vec()
+    }
+
     /// Adds the value at the end. On want of memory it hands the value back and changes nothing.
     pub fn push(&mut self, value: KeyVal) -> Result<(), KeyVal>
         ensures ok { OnOk result (self.new ≡ self.old ++ value ∷ []) }

@@ -9,14 +9,13 @@ pub mod Room
 pub mod NullBits
 -- what the pass that puts the data keeps
 pub mod PutPass
--- the value that bytes are
-mod Scalars
--- a value that stands at a place
-mod ScalarPieces
--- what the pass that reads the data keeps
-mod ReadPass
--- one number, one value and one list of values at most have the same bytes
-mod OneNumber
-mod OneValue
--- cited by the crates above
+-- one number at most is stored in the same bytes
+pub mod OneNumber
+pub mod OneValue
 pub mod OneReading
+-- the values that are read
+pub mod ReadNumber
+pub mod ReadContent
+pub mod ReadVariable
+pub mod ReadPiece
+pub mod ReadList

@@ -1,6 +1,5 @@
 -- One number at most of a form is stored in the same bytes.
-use Rattle.std.proofs.Common.{◌≡◌, ◌⊎◌, ℕ, ◌%◌, ◌^◌, ℤ, pos, negsuc, List, [], ◌++◌, length, take, refl, sym, ap, subst, ◌∙◌, inl, inr, arith}
-use Rattle.std.specs.Prelude.{⊤}
+use Rattle.std.proofs.Common.{◌≡◌, ℕ, ◌%◌, ◌^◌, ℤ, pos, negsuc, List, [], ◌++◌, length, take, refl, sym, ap, subst, ◌∙◌, inl, inr, arith}
 use Rattle.std.proofs.Math.Nat.{div-one}
 use Rattle.std.proofs.Math.Seq.{take-append_seam}
 use Rattle.std.proofs.lemmas.List.{append-nil}
@@ -13,19 +12,10 @@ use Rattle.opclass.specs.declared.types.ColType.{ColType}
 use Rattle.opclass.specs.declared.types.ColType.TheVariants as ty
 use Rattle.opclass.specs.declared.types.Form.{Form}
 use Rattle.opclass.specs.declared.types.Form.TheVariants.{Truth, Signed, Unsigned, Bytes, Array}
-use Rattle.opclass.specs.declared.types.Width.{Width}
 use Rattle.opclass.specs.declared.types.Width.TheVariants.{Fixed}
 use Rattle.opclass.specs.Types.{facts_of}
 use Rattle.opclass.specs.Values.{IsNumberOf}
-use Rattle.tuple_data.specs.Reading.{IsStored}
-
--- the widths that the values of a form have
-abbrev pub IsFit : Form → Width → Type 0
-IsFit Truth (Fixed width) = width ≡ 1
-IsFit Signed (Fixed width) = (width ≡ 2) ⊎ ((width ≡ 4) ⊎ (width ≡ 8))
-IsFit Unsigned (Fixed width) = width ≡ 4
-IsFit Bytes width = ⊤
-IsFit other width = ⊥
+use Rattle.tuple_data.specs.Reading.{IsFit, IsStored}
 
 two : IsFit Signed (Fixed 2)
 two = inl refl

@@ -19,7 +19,8 @@ use Rattle.opclass.specs.Types.{facts_of}
 use Rattle.opclass.specs.Values.{IsArrayOf, IsBytesOf, IsNumberOf, IsValueOf}
 use Rattle.tuple_data.specs.Datum.{datum_of, long_header, number_datum, padding, short_header, stored_at, variable_datum}
 use Rattle.tuple_data.specs.Nulls.{is_null}
-use Rattle.tuple_data.proofs.OneNumber.{IsFit, front_once, low_once, number_once}
+use Rattle.tuple_data.specs.Reading.{IsFit}
+use Rattle.tuple_data.proofs.OneNumber.{front_once, low_once, number_once}
 use Rattle.tuple_data.proofs.Pieces.{length-variable, stored_at-long, stored_at-narrow, stored_at-short, variable-below}
 
 -- what stands behind the same zeros
@@ -63,7 +64,7 @@ long_once x y b c fits fits' e =
     let same : length x ≡ length y = omega arith in
     front_once x y b c same (append_cancel_left here (x ++ b) (y ++ c) (whole ∙ ap (λ (h : List ℕ). h ++ (y ++ c)) (sym headers)))
 
-fits_header : (place : ℕ) (bytes rest : List ℕ) → length (stored_at place (Some (variable_datum bytes)) ++ rest) < 2 ^ 30
+pub fits_header : (place : ℕ) (bytes rest : List ℕ) → length (stored_at place (Some (variable_datum bytes)) ++ rest) < 2 ^ 30
     → length bytes < 1073741820
 fits_header place bytes rest fits =
     let both = length-append (stored_at place (Some (variable_datum bytes))) rest in
@@ -97,7 +98,7 @@ variable_once place x y b c fits e =
     ]
 
 -- a number of a width of at most eight bytes
-fit_narrow : (form : Form) (width : ℕ) (n : ℤ) → IsFit form (Fixed width) → IsNumberOf form (Fixed width) n → width ≤ 8
+pub fit_narrow : (form : Form) (width : ℕ) (n : ℤ) → IsFit form (Fixed width) → IsNumberOf form (Fixed width) n → width ≤ 8
 fit_narrow Truth width n fit is = omega (arith, fit)
 fit_narrow Signed width n fit is = elim fit [ inl two ↦ omega arith | inr more ↦ elim more [ inl four ↦ omega arith | inr eight ↦ omega arith ] ]
 fit_narrow Unsigned width n fit is = omega (arith, fit)
@@ -133,7 +134,7 @@ typed_of kind (Num number) typed = typed
 typed_of kind (Raw bytes) typed = typed
 typed_of kind (Items elements) typed = typed
 
-not_both : (form : Form) (width : Width) (number : ℤ) (bytes : List ℕ) → IsNumberOf form width number → IsBytesOf form width bytes → ⊥
+pub not_both : (form : Form) (width : Width) (number : ℤ) (bytes : List ℕ) → IsNumberOf form width number → IsBytesOf form width bytes → ⊥
 not_both Truth width number bytes is has = has
 not_both Signed width number bytes is has = has
 not_both Unsigned width number bytes is has = has
@@ -148,7 +149,7 @@ no_items Bytes width elements fit is = is
 no_items (Array element) (Fixed width) elements fit is = fit
 no_items (Array element) Variable elements fit is = fit
 
-no_number : (form : Form) (number : ℤ) → IsFit form Variable → IsNumberOf form Variable number → ⊥
+pub no_number : (form : Form) (number : ℤ) → IsFit form Variable → IsNumberOf form Variable number → ⊥
 no_number Truth number fit is = fit
 no_number Signed number fit is = fit
 no_number Unsigned number fit is = fit
@@ -156,7 +157,7 @@ no_number Bytes number fit is = is
 no_number (Array element) number fit is = fit
 
 -- the bytes of a fixed width are as many
-as_wide : (form : Form) (width : ℕ) (bytes : List ℕ) → IsBytesOf form (Fixed width) bytes → length bytes ≡ width
+pub as_wide : (form : Form) (width : ℕ) (bytes : List ℕ) → IsBytesOf form (Fixed width) bytes → length bytes ≡ width
 as_wide Truth width bytes is = absurd is
 as_wide Signed width bytes is = absurd is
 as_wide Unsigned width bytes is = absurd is

@@ -18,7 +18,7 @@ use Rattle.tuple_data.proofs.Facts.{alignment_is_known}
 use Rattle.tuple_data.specs.Datum.{IsAlignment, datum_of, long_header, number_datum, padding, piece_at, short_header, stored_at, variable_datum}
 
 -- rounding up never goes below
-pub rounded_up-above : (alignment place : ℕ) → IsAlignment alignment → place ≤ rounded_up alignment place
+rounded_up-above : (alignment place : ℕ) → IsAlignment alignment → place ≤ rounded_up alignment place
 rounded_up-above alignment place known =
     elim known [
       | inl one ↦ (rw one (omega arith))

@@ -51,9 +51,6 @@ room-stored place alignment Variable (Num number) known = omega arith
 room-stored place alignment Variable (Raw bytes) known = room-variable place (length bytes) _ (length-variable place bytes)
 room-stored place alignment Variable (Items elements) known = omega arith
 
-pub room-piece : (place : ℕ) (kind : ColType) (value : KeyVal) → length (piece_at place kind value) ≤ room_of value
-room-piece place kind value = room-stored place (facts_of kind).alignment (facts_of kind).width value (alignment_is_known kind)
-
 pub room-data : (place : ℕ) (kinds : List ColType) (values : List KeyVal) → length (data_from place kinds values) ≤ sum_by room_of values
 room-data place [] values = omega arith
 room-data place (kind ∷ kinds) [] = omega arith

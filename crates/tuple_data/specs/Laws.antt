@@ -4,7 +4,7 @@ use Rattle.opclass.specs.declared.types.ColType.{ColType}
 use Rattle.opclass.specs.declared.value.KeyVal.{KeyVal}
 use Rattle.opclass.specs.declared.value.KeyVal.TheVariants.{Nil, Num, Raw, Items}
 use Rattle.tuple_data.specs.Data.{data_from, data_of}
-use Rattle.tuple_data.specs.Reading.{BeginsWithData}
+use Rattle.tuple_data.specs.Reading.{AreStored, BeginsWithData}
 
 -- the data of columns and of those behind them are the data of them all
 abbrev pub ColumnsBehindFollow : Type 0
@@ -34,5 +34,5 @@ DataTakeTheirRoom =
 -- one list of values at most has its data in front of the same bytes
 abbrev pub ValuesAreToldApart : Type 0
 ValuesAreToldApart =
-    (kinds : List ColType) (bits : ℕ) (bytes : List ℕ) (values others : List KeyVal) → length bytes < 2 ^ 30
-    → BeginsWithData kinds bits bytes values → BeginsWithData kinds bits bytes others → values ≡ others
+    (kinds : List ColType) (present : ℕ) (bytes : List ℕ) (values others : List KeyVal) → AreStored kinds → length bytes < 2 ^ 30
+    → BeginsWithData kinds present bytes values → BeginsWithData kinds present bytes others → values ≡ others

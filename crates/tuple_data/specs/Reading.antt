@@ -1,26 +1,23 @@
--- What is read of the data of a tuple (nocache_index_getattr and index_deform_tuple of indextuple.c).
-use Rattle.std.specs.Prelude.{◌≡◌, ◌⊎◌, ◌≤◌, ℕ, ℤ, ⊤, false, Option, Some, None, List, length, take, drop, All}
+-- The values that bytes are the data of (index_deform_tuple of indextuple.c). Beside the bytes, the null bitmap says which
+-- of the columns have a value.
+use Rattle.std.specs.Prelude.{◌≡◌, ◌⊎◌, ℕ, if◌then◌else◌, false, ⊤, List, ◌++◌, length, All}
 use Rattle.std.specs.List.{AllZip}
-use denote.Ref.{Bor}
 use Rattle.std.specs.Int.{w64, cast_unsigned}
 use Rattle.pg_bytes.specs.Numbers.{number_bytes}
 use Rattle.opclass.specs.declared.types.ColType.{ColType}
 use Rattle.opclass.specs.declared.types.Form.{Form}
-use Rattle.opclass.specs.declared.types.Form.TheVariants.{Truth, Signed, Unsigned, Array}
+use Rattle.opclass.specs.declared.types.Form.TheVariants.{Truth, Signed, Unsigned, Bytes, Array}
+use Rattle.opclass.specs.declared.types.Width.{Width}
+use Rattle.opclass.specs.declared.types.Width.TheVariants.{Fixed}
 use Rattle.opclass.specs.declared.value.KeyVal.{KeyVal}
-use Rattle.opclass.specs.declared.value.KeyVal.TheVariants.{Num, Raw, Items}
+use Rattle.opclass.specs.declared.value.KeyVal.TheVariants.{Nil, Num, Raw}
 use Rattle.opclass.specs.Types.{facts_of}
-use Rattle.opclass.specs.Values.{IsValueOf}
+use Rattle.opclass.specs.Values.{IsBytesOf, IsNumberOf, IsValueOf}
 use Rattle.tuple_data.specs.Data.{data_of}
 use Rattle.tuple_data.specs.Datum.{piece_at}
 use Rattle.tuple_data.specs.Nulls.{is_null, null_bits}
-use Rattle.tuple_data.specs.declared.scalar.Scalar.{Scalar}
-use Rattle.tuple_data.specs.declared.scalar.Scalar.TheVariants.{Number, Bytes}
-
--- a value of a type that a tuple of an index may have, which is no array
-abbrev pub IsScalarOf : ColType → KeyVal → Type 0
-IsScalarOf kind (Items elements) = ⊥
-IsScalarOf kind value = IsValueOf kind value
+use Rattle.tuple_data.specs.declared.attribute.Attribute.{Attribute}
+use Rattle.tuple_data.specs.declared.attribute.Attribute.TheVariants as attribute
 
 -- a form whose values stand in an index tuple, so no array's
 abbrev pub IsStored : Form → Type 0
@@ -31,57 +28,42 @@ IsStored form = ⊤
 abbrev pub AreStored : List ColType → Type 0
 AreStored kinds = All (λ kind. IsStored (facts_of kind).form) kinds
 
--- Bytes begin with the data of these values, of these types. Which of them are null is said by the null bitmap.
-pub record BeginsWithData (kinds : List ColType) (bits : ℕ) (bytes : List ℕ) (values : List KeyVal) : Type 0 where
-  pub typed : AllZip IsScalarOf kinds values
-  pub nulls : null_bits values ≡ bits
-  pub front : take (length (data_of kinds values)) bytes ≡ data_of kinds values
+-- the widths that the values of a form have (pg_type.dat)
+abbrev pub IsFit : Form → Width → Type 0
+IsFit Truth (Fixed width) = width ≡ 1
+IsFit Signed (Fixed width) = (width ≡ 2) ⊎ ((width ≡ 4) ⊎ (width ≡ 8))
+IsFit Unsigned (Fixed width) = width ≡ 4
+IsFit Bytes width = ⊤
+IsFit other width = ⊥
 
--- ---- one value
+-- the value that an attribute is
+abbrev pub value_of : Attribute → KeyVal
+value_of attribute.Null = Nil
+value_of (attribute.Number number) = Num number
+value_of (attribute.Bytes bytes) = Raw bytes.now
 
--- a piece stands at a place of bytes
-abbrev pub HasPiece : List ℕ → ℕ → List ℕ → Type 0
-HasPiece bytes place piece = take (length piece) (drop place bytes) ≡ piece
+-- the value of this form and of a fixed width that all of the bytes are
+abbrev pub IsContent : Form → List ℕ → KeyVal → Type 0
+IsContent form bytes (Num number) =
+    IsNumberOf form (Fixed (length bytes)) number × (bytes ≡ number_bytes (length bytes) (cast_unsigned w64 number))
+IsContent form bytes (Raw own) = IsBytesOf form (Fixed (length bytes)) own × (bytes ≡ own)
+IsContent form bytes other = ⊥
 
--- a value that isn't null stands at a place of the data, behind the zeros up to its alignment
-pub record StandsAt (place : ℕ) (kind : ColType) (bytes : List ℕ) (value : KeyVal) : Type 0 where
-  pub typed : IsScalarOf kind value
+-- from a place on the bytes are those of this value, which isn't null, and what stands behind it
+pub record BeginsWithValue (place : ℕ) (kind : ColType) (bytes : List ℕ) (value : KeyVal) (behind : List ℕ) : Type 0 where
+  pub typed : IsValueOf kind value
   pub there : is_null value ≡ false
-  pub piece : HasPiece bytes place (piece_at place kind value)
+  pub «data» : bytes ≡ piece_at place kind value ++ behind
 
--- the forms and widths of numbers: a truth value has a byte, an integer two, four or eight
-abbrev pub IsNumberForm : Form → ℕ → Type 0
-IsNumberForm Truth width = width ≡ 1
-IsNumberForm Signed width = (width ≡ 2) ⊎ ((width ≡ 4) ⊎ (width ≡ 8))
-IsNumberForm Unsigned width = width ≡ 4
-IsNumberForm other width = ⊤
+-- the same of a value whose null bit is this; a null takes no bytes
+pub record IsNext (place : ℕ) (kind : ColType) (present : ℕ) (bytes : List ℕ) (value : KeyVal) (behind : List ℕ) : Type 0 where
+  pub typed : IsValueOf kind value
+  pub bit : (if is_null value then 0 else 1) ≡ present
+  pub «data» : bytes ≡ piece_at place kind value ++ behind
 
--- bytes are those of a number, low byte first
-abbrev pub AreNumber : ℤ → List ℕ → Type 0
-AreNumber number bytes = bytes ≡ number_bytes (length bytes) (cast_unsigned w64 number)
-
--- bytes are those of a value of a fixed width
-abbrev pub AreFixed : KeyVal → List ℕ → Type 0
-AreFixed (Num number) bytes = AreNumber number bytes
-AreFixed (Raw content) bytes = bytes ≡ content
-AreFixed other bytes = ⊥
-
--- the value that a view is of
-abbrev pub value_of : Scalar → KeyVal
-value_of (Number number) = Num number
-value_of (Bytes bytes) = Raw bytes.now
-
--- a view, if there is one, is of a value
-abbrev pub IsViewOf : Option Scalar → KeyVal → Type 0
-IsViewOf None value = ⊥
-IsViewOf (Some scalar) value = value_of scalar ≡ value
-
--- a slice, if there is one, has these bytes
-abbrev pub IsSlice : Option (Bor (List ℕ)) → List ℕ → Type 0
-IsSlice None bytes = ⊥
-IsSlice (Some slice) bytes = slice.now ≡ bytes
-
--- what a view is of has no more bytes than these
-abbrev pub IsWithin : Scalar → List ℕ → Type 0
-IsWithin (Number number) bytes = ⊤
-IsWithin (Bytes content) bytes = length content.now ≤ length bytes
+-- the bytes begin with the data of these values, and exactly those that the null bits name aren't null
+pub record BeginsWithData (kinds : List ColType) (present : ℕ) (bytes : List ℕ) (values : List KeyVal) : Type 0 where
+  pub typed : AllZip IsValueOf kinds values
+  pub bits : null_bits values ≡ present
+  pub behind : List ℕ
+  pub «data» : bytes ≡ data_of kinds values ++ behind

@@ -11,12 +11,12 @@ use std::alloc::AllocError;
 const NUMBER_MOST: u8 = 8;
 
 // The most bytes that stand under a header of one byte.
-const SHORT_MOST: usize = 126;
+pub(crate) const SHORT_MOST: usize = 126;
 
 // The bytes of a long header, and the multiple at which it stands.
-const LONG_HEADER: u64 = 4;
+pub(crate) const LONG_HEADER: u64 = 4;
 
-const LONG_ALIGNMENT: u8 = 4;
+pub(crate) const LONG_ALIGNMENT: u8 = 4;
 
 // Where a value of a column ends that begins behind so many bytes (`heap_compute_data_size` of
 // `heaptuple.c`).

@@ -19,19 +19,28 @@
 //! before. `has_null`, `has_variable` and `null_bits` answer what a tuple's header says of its
 //! values.
 //!
+//! `read_data` is the way back: of types and null bits it gives the one list of values whose data
+//! the bytes begin with, and None exactly where there is no such list. So a byte between values
+//! that isn't zero, or a long header where a short one has room, is refused. That there is at most
+//! one such list is `values_are_told_apart`.
+//!
 //! # What is not
 //!
 //! The tuple around the data, with its header, bitmap and size, is the business of the crates
 //! above. Arrays take no place here: no index tuple has one.
 #![tactic(auto)]
 
+mod attribute;
+mod content;
 mod data;
 mod datum;
 mod laws;
 mod nulls;
+mod number;
+mod piece;
 mod reading;
-mod scalar;
 
+pub use attribute::Attribute;
 pub use data::{data_size, put_data};
 pub use laws::{
     columns_behind_follow, data_take_their_room, front_columns_have_the_front,
@@ -39,4 +48,3 @@ pub use laws::{
 };
 pub use nulls::{has_null, has_variable, null_bits};
 pub use reading::read_data;
-pub use scalar::Scalar;
