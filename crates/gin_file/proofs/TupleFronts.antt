@@ -1,7 +1,7 @@
 -- The entry at the front of a tuple.
-use Rattle.std.proofs.Common.{◌≡◌, ◌+◌, ◌-◌, ◌*◌, ◌/◌, ◌%◌, ◌^◌, ◌<◌, ◌≤◌, ℕ, zero, suc, slice_index_or, List, [], ◌∷◌, ◌++◌, length, take, drop, Bool, true, false, sym, ap, subst, ◌∙◌, arith, length-append, Some, None, IfOk, MatchOption, inl, inr, refl}
+use Rattle.std.proofs.Common.{◌≡◌, ◌+◌, ◌-◌, ◌*◌, ◌/◌, ◌%◌, ◌^◌, ◌<◌, ◌≤◌, ℕ, zero, suc, slice_index_or, List, [], ◌∷◌, ◌++◌, length, drop, Bool, true, false, sym, ap, subst, ◌∙◌, arith, length-append, Some, None, IfOk, MatchOption, inl, inr, refl}
 use Rattle.std.specs.Prelude.{◌||◌, if◌then◌else◌, cond, Option, Result, Ok, Err}
-use Rattle.std.proofs.lemmas.List.{append_assoc, take_at, drop_at}
+use Rattle.std.proofs.lemmas.List.{append_assoc, drop_at}
 use Rattle.pg_bytes.specs.Numbers.{number_at, number_bytes}
 use Rattle.pg_bytes.specs.Places.{zeros}
 use Rattle.pg_bytes.specs.Pointers.{row_pointer_at, row_pointer_bytes}
@@ -11,11 +11,15 @@ use Rattle.pg_bytes.proofs.Writes.{length-number_bytes}
 use Rattle.opclass.specs.declared.types.ColType.{ColType}
 use Rattle.opclass.specs.declared.value.KeyVal.{KeyVal}
 use Rattle.opclass.specs.declared.value.KeyVal.TheVariants.{Items, Nil, Num, Raw}
+use Rattle.opclass.specs.declared.types.ColType.TheVariants as ty
 use Rattle.opclass.specs.declared.types.Form.{Form}
-use Rattle.opclass.specs.declared.types.Form.TheVariants.{Array}
+use Rattle.opclass.specs.declared.types.Form.TheVariants.{Truth, Signed, Unsigned, Bytes, Array}
 use Rattle.opclass.specs.Types.{facts_of}
-use Rattle.opclass.specs.Values.{IsValueOf}
-use Rattle.tuple_data.specs.Reading.{BeginsWithData, IsScalarOf}
+use Rattle.opclass.specs.Values.{IsArrayOf, IsValueOf}
+use Rattle.opclass.specs.declared.value.Elem.{Elem}
+use Rattle.tuple_data.specs.Reading.{BeginsWithData, IsStored}
+use Rattle.tuple_data.proofs.OneReading.{reading_once}
+use Rattle.std.proofs.lemmas.List.Elements.{All-cons, All-nil}
 use Rattle.tuple_data.specs.Data.{data_of}
 use Rattle.tuple_data.specs.Nulls.{has_null, has_variable, is_null, null_bits}
 use Rattle.btree_item.specs.Tuple.{bitmap_of, data_end, index_tuple, info_of, null_mark, size_of, variable_mark}
@@ -24,7 +28,7 @@ use Rattle.gin_entry.specs.declared.entry.Entry.{Entry}
 use Rattle.gin_entry.specs.declared.entry.Category.{Category}
 use Rattle.gin_entry.specs.declared.entry.Category.TheVariants.{EmptyItem, NullItem, NullKey}
 use Rattle.gin_entry.specs.Entries.{number_of_category}
-use Rattle.gin_entry.specs.EntrySize.{key_end, list_place}
+use Rattle.gin_entry.specs.EntrySize.{key_end, key_kinds, list_place}
 use Rattle.gin_file.specs.Entry.{IsEntry, IsEntryOf, IsKeyOf}
 use Rattle.opclass.specs.declared.value.Elem.TheVariants as elem
 use Rattle.gin_file.specs.EntryTuple.{category_byte, key_part}
@@ -106,8 +110,8 @@ key-front kind bytes entry b low =
           record {
             entry_is = b.entry_is;
             of_key = key.0;
-            key = ap (take (length (data_of (kinds_of kind) (values_of entry)))) cut
-                ∙ take_at (data_of (kinds_of kind) (values_of entry)) more (length (data_of (kinds_of kind) (values_of entry))) refl;
+            rest = more;
+            bytes_are = cut;
           }
       | inr placeholder ↦
           let info = info-read kind bytes entry b in
@@ -210,42 +214,113 @@ known-category entry (inr (inr same)) some = (NullItem, sym (ap (λ (e : Entry).
 
 -- ---- a key that was read
 
--- a value that isn't null is an entry's key
-is-entry : (element : ColType) (value : KeyVal) → IsScalarOf element value → null_bits (value ∷ []) ≡ 1 → IsEntry (record { category = 0; key = value })
-is-entry element Nil of there = absurd (omega arith)
-is-entry element (Num number) of there = inl (elem.Num number, refl)
-is-entry element (Raw bytes) of there = inl (elem.Raw bytes, refl)
-is-entry element (Items elements) of there = absurd of
+one : (a b : ColType) → Array a ≡ Array b → b ≡ a
+one a b same = cc
 
-is-value : (element : ColType) (value : KeyVal) → IsScalarOf element value → IsValueOf element value
-is-value element Nil of = of
-is-value element (Num number) of = of
-is-value element (Raw bytes) of = of
-is-value element (Items elements) of = absurd of
+stored-as : (kind element : ColType) → element ≡ kind → IsStored (facts_of kind).form → IsStored (facts_of element).form
+stored-as kind element same stored = subst (λ (k : ColType). IsStored (facts_of k).form) (sym same) stored
+
+-- elements of arrays are no arrays
+pub element-stored : (kind element : ColType) → (facts_of kind).form ≡ Array element → IsStored (facts_of element).form
+element-stored ty.Bool element is = absurd cc
+element-stored ty.Int2 element is = absurd cc
+element-stored ty.Int4 element is = absurd cc
+element-stored ty.Int8 element is = absurd cc
+element-stored ty.Oid element is = absurd cc
+element-stored ty.Date element is = absurd cc
+element-stored ty.Timestamp element is = absurd cc
+element-stored ty.Timestamptz element is = absurd cc
+element-stored ty.Time element is = absurd cc
+element-stored ty.Uuid element is = absurd cc
+element-stored ty.Text element is = absurd cc
+element-stored ty.Varchar element is = absurd cc
+element-stored ty.Bytea element is = absurd cc
+element-stored ty.Float4 element is = absurd cc
+element-stored ty.Float8 element is = absurd cc
+element-stored ty.Numeric element is = absurd cc
+element-stored ty.Bpchar element is = absurd cc
+element-stored ty.Name element is = absurd cc
+element-stored ty.Interval element is = absurd cc
+element-stored ty.Json element is = absurd cc
+element-stored ty.Jsonb element is = absurd cc
+element-stored ty.Int4Array element is = stored-as ty.Int4 element (one _ _ is) tt
+element-stored ty.Int8Array element is = stored-as ty.Int8 element (one _ _ is) tt
+element-stored ty.TextArray element is = stored-as ty.Text element (one _ _ is) tt
+
+no-array : (form : Form) (elements : List Elem) → IsStored form → IsArrayOf form elements → ⊥
+no-array Truth elements stored of = of
+no-array Signed elements stored of = of
+no-array Unsigned elements stored of = of
+no-array Bytes elements stored of = of
+no-array (Array element) elements stored of = stored
+
+-- a value that isn't null is an entry's key
+is-entry : (element : ColType) (value : KeyVal) → IsStored (facts_of element).form → IsValueOf element value → null_bits (value ∷ []) ≡ 1
+    → IsEntry (record { category = 0; key = value })
+is-entry element Nil stored of there = absurd (omega arith)
+is-entry element (Num number) stored of there = inl (elem.Num number, refl)
+is-entry element (Raw bytes) stored of there = inl (elem.Raw bytes, refl)
+is-entry element (Items elements) stored of there = absurd (no-array (facts_of element).form elements stored of)
 
 pub typed-key : (kind element : ColType) (bytes : List ℕ) (value : KeyVal) → (facts_of kind).form ≡ Array element
     → BeginsWithData (element ∷ []) 1 bytes (value ∷ []) → IsEntryOf kind (record { category = 0; key = value })
 typed-key kind element bytes value form b = record {
-  entry_is = is-entry element value b.typed.0 b.nulls;
-  key = subst (λ (f : Form). IsKeyOf f value) (sym form) (is-value element value b.typed.0);
+  entry_is = is-entry element value (element-stored kind element form) b.typed.0 b.bits;
+  key = subst (λ (f : Form). IsKeyOf f value) (sym form) b.typed.0;
 }
+
+-- the data of an entry's key are those of a value
+one-bit : (key : KeyVal) → is_null key ≡ false → null_bits (key ∷ []) ≡ 1
+one-bit key there = let P : Bool → ℕ = λ b. cond b 0 1 + 2 * 0 in ap P there
+
+pub key-begins : (kind element : ColType) (bytes : List ℕ) (entry : Entry) → (facts_of kind).form ≡ Array element → BeginsWithKey kind bytes entry
+    → BeginsWithData (element ∷ []) 1 bytes (entry.key ∷ [])
+key-begins kind element bytes entry form b = record {
+  typed = (subst (λ (f : Form). IsKeyOf f entry.key) form b.entry_is.key, tt);
+  bits = elim (key-or-not entry b.entry_is.entry_is) [
+    | inl key ↦ one-bit entry.key key.1
+    | inr placeholder ↦ let of_key = b.of_key in let some = placeholder.0 in absurd (omega arith)
+  ];
+  behind = b.rest;
+  «data» = b.bytes_are ∙ ap (λ (f : Form). data_of (key_kinds f) (entry.key ∷ []) ++ b.rest) form;
+}
+
+some-one : (a b : KeyVal) → Some a ≡ Some b → a ≡ b
+some-one a b e = cc
+
+-- so it is the entry of the key that was read
+pub key-only-read : (kind element : ColType) (bytes : List ℕ) (key : KeyVal) (answer : Option KeyVal) → (facts_of kind).form ≡ Array element → answer ≡ Some key
+    → ((value : KeyVal) → BeginsWithData (element ∷ []) 1 bytes (value ∷ []) → answer ≡ Some value)
+    → (entry : Entry) → BeginsWithKey kind bytes entry → Some (record { category = 0; key = key }) ≡ Some entry
+key-only-read kind element bytes key answer form is only entry b =
+    let same : key ≡ entry.key = some-one key entry.key (sym is ∙ only entry.key (key-begins kind element bytes entry form b)) in
+    let category = b.of_key in
+    ap (λ (e : Entry). Some e) (λ i. record { category = sym category i; key = same i })
+
+pub no-key-read : (kind element : ColType) (bytes : List ℕ) (answer : Option KeyVal) → (facts_of kind).form ≡ Array element → answer ≡ None
+    → ((value : KeyVal) → BeginsWithData (element ∷ []) 1 bytes (value ∷ []) → answer ≡ Some value)
+    → (entry : Entry) → BeginsWithKey kind bytes entry → ⊥
+no-key-read kind element bytes answer form none only entry b =
+    let some = only entry.key (key-begins kind element bytes entry form b) in cc
 
 -- ---- the one value that is read
 
-some-one : (a b : List KeyVal) → Some a ≡ Some b → a ≡ b
-some-one a b e = cc
-
 -- a list that is the one with which bytes begin has the one value
-pub value-only : (kind : ColType) (bytes : List ℕ) (values rest : List KeyVal) (answer : Option (List KeyVal)) (popped : Option KeyVal) → answer ≡ Some values
-    → ((others : List KeyVal) → BeginsWithData (kind ∷ []) 1 bytes others → answer ≡ Some others)
+pub value-only : (kind : ColType) (bytes : List ℕ) (values rest : List KeyVal) (popped : Option KeyVal) → length bytes < 2 ^ 30
+    → IsStored (facts_of kind).form → BeginsWithData (kind ∷ []) 1 bytes values
     → MatchOption popped ((values ≡ []) × (rest ≡ [])) (λ last. values ≡ rest ++ last ∷ [])
     → (value : KeyVal) → BeginsWithData (kind ∷ []) 1 bytes (value ∷ []) → popped ≡ Some value
-value-only kind bytes values rest answer None found only popped value begins = let same = only (value ∷ []) begins in absurd cc
-value-only kind bytes values rest answer (Some last) found only popped value begins =
-    let same : values ≡ value ∷ [] = some-one values (value ∷ []) (sym found ∙ only (value ∷ []) begins) in
-    by rest (sym popped ∙ same)
+value-only kind bytes values rest popped few stored found got value begins =
+    by popped got
   where
-    by : (rest : List KeyVal) → rest ++ last ∷ [] ≡ value ∷ [] → Some last ≡ Some value
-    by [] e = cc
-    by (x ∷ []) e = absurd cc
-    by (x ∷ y ∷ xs) e = absurd cc
+    same : values ≡ value ∷ []
+    same = reading_once (kind ∷ []) 1 bytes values (value ∷ []) (All-cons (λ k. IsStored (facts_of k).form) kind [] stored (All-nil (λ (k : ColType). IsStored (facts_of k).form))) few found begins
+
+    last-one : (rest : List KeyVal) (last : KeyVal) → rest ++ last ∷ [] ≡ value ∷ [] → Some last ≡ Some value
+    last-one [] last e = cc
+    last-one (x ∷ []) last e = absurd cc
+    last-one (x ∷ y ∷ xs) last e = absurd cc
+
+    by : (popped : Option KeyVal) → MatchOption popped ((values ≡ []) × (rest ≡ [])) (λ last. values ≡ rest ++ last ∷ []) → popped ≡ Some value
+    by None got = let none = got.0 in absurd cc
+    by (Some last) got = last-one rest last (sym got ∙ same)

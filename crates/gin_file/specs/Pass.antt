@@ -1,5 +1,5 @@
 -- What the reading of a tuple keeps on its way.
-use Rattle.std.specs.Prelude.{◌≡◌, ℕ, ◌^◌, ◌<◌, List, ◌++◌, length, take}
+use Rattle.std.specs.Prelude.{◌≡◌, ℕ, ◌^◌, ◌<◌, List, ◌++◌}
 use Rattle.pg_bytes.specs.declared.row_ptr.RowPtr.{RowPtr}
 use Rattle.opclass.specs.declared.types.ColType.{ColType}
 use Rattle.gin_entry.specs.declared.entry.Entry.{Entry}
@@ -23,7 +23,8 @@ pub record BeginsWithEntry (kind : ColType) (bytes : List ℕ) (entry : Entry) :
 pub record BeginsWithKey (kind : ColType) (bytes : List ℕ) (entry : Entry) : Type 0 where
   pub entry_is : IsEntryOf kind entry
   pub of_key : entry.category ≡ number_of_category Key
-  pub key : take (length (key_data kind entry)) bytes ≡ key_data kind entry
+  pub rest : List ℕ
+  pub bytes_are : bytes ≡ key_data kind entry ++ rest
 
 -- bytes begin with the segment of pointers
 pub record BeginsWithSegment (bytes : List ℕ) (pointers : List RowPtr) : Type 0 where

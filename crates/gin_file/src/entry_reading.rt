@@ -9,7 +9,8 @@ ghost use Rattle.gin_file.specs.Item.{IsListIn, IsTupleOf};
 ghost use Rattle.gin_file.specs.Pass.{BeginsWithEntry, BeginsWithKey, BeginsWithSegment};
 ghost use Rattle.gin_file.specs.declared.entry_reading.EntryItem.{EntryItem};
 ghost use Rattle.gin_file.specs.declared.entry_reading.EntryItem.TheVariants.{Inner, List as ListItem, Tree};
-ghost use Rattle.tuple_data.specs.Reading.{BeginsWithData};
+ghost use Rattle.opclass.specs.Types.{facts_of};
+ghost use Rattle.tuple_data.specs.Reading.{BeginsWithData, IsStored};
 ghost use Rattle.opclass.specs.declared.value.KeyVal.{KeyVal};
 
 use crate::entry_tuple::{
@@ -119,7 +120,8 @@ fn read_key_value(alloc: Global, kind: ColType, bytes: &[u8]) -> Result<Option<E
 
 // The one value whose data bytes begin with. None comes only where there is none.
 fn read_value(alloc: Global, kind: ColType, bytes: &[u8]) -> Result<Option<KeyVal>, AllocError>
-    requires { length bytes.now < 2 ^ 13 }
+    requires stored { IsStored (facts_of kind).form }
+    requires few { length bytes.now < 2 ^ 13 }
     ensures found { IfOk result (λ answer. IfSome answer (λ value.
         BeginsWithData (kind ∷ []) 1 bytes.now (value ∷ []))) }
     ensures only { IfOk result (λ answer.
