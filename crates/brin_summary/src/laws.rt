@@ -134,8 +134,8 @@ pub fn entries_are_read_back()
     ensures { EntriesAreReadBack }
 {}
 
-/// Where each tuple has room on a page, the file is its meta page, the revmap and the regular pages,
-/// each at its block.
+/// Where each tuple has room on a page, the file is its meta page, the revmap and the regular
+/// pages, each at its block.
 pub fn file_has_its_pages()
     ensures { FileHasItsPages }
 {}

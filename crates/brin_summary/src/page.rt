@@ -41,4 +41,3 @@ pub fn empty_page(alloc: Global) -> Result<PageBuf, AllocError>
     page.put_slice(SPECIAL_PLACE, &PageType::Regular.special_space());
     Ok(page)
 }
-

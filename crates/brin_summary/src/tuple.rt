@@ -176,7 +176,8 @@ fn null_bitmap(range: &Summary) -> NullBitmap
     NullBitmap { bits, size }
 }
 
-// The flags of a range: of each column whether all is null in it, and then of each whether a null is.
+// The flags of a range: of each column whether all is null in it, and then of each whether a null
+// is.
 fn null_bits(range: &Summary) -> u64
     requires { length range.now.columns ≤ 32 }
     ensures { result ≡ bits_of (null_flags range.now.columns) }

@@ -132,7 +132,8 @@ fn add_rows(
     Ok(count)
 }
 
-// Puts a row of a page, with this pointer, into a sink, unless WHERE leaves it out, and answers whether it was put.
+// Puts a row of a page, with this pointer, into a sink, unless WHERE leaves it out, and answers
+// whether it was put.
 fn add_row(
     alloc: Global,
     reader: &RowReader,

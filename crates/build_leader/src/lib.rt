@@ -22,13 +22,13 @@
 //! `nbtsort.c`, `heapam_index_build_range_scan` of `heapam_handler.c`): the page is checked, its
 //! HOT chains give each live item its root, and the needed columns of the item are read. WHERE is
 //! asked before the size of the tuple or of an entry, so a row that it leaves out can't be too
-//! large. All rows of a worker are read into one slot, which keeps its memory. A block with a fault is reported to all workers, and from then on a worker passes over
-//! each block above a report that it has seen. What it reads afterwards is below its own reports,
-//! so the fault that it found last is its least. As long as it has seen no report, it has the rows
-//! of all blocks of its claims; and the seat into which all others were joined has seen no less
-//! than the least of all reports. So either that seat has none, and every block was taken, or the
-//! blocks below its least report were, and the fault kept of it is the heap's first, whoever found
-//! one first.
+//! large. All rows of a worker are read into one slot, which keeps its memory. A block with a fault
+//! is reported to all workers, and from then on a worker passes over each block above a report that
+//! it has seen. What it reads afterwards is below its own reports, so the fault that it found last
+//! is its least. As long as it has seen no report, it has the rows of all blocks of its claims; and
+//! the seat into which all others were joined has seen no less than the least of all reports. So
+//! either that seat has none, and every block was taken, or the blocks below its least report were,
+//! and the fault kept of it is the heap's first, whoever found one first.
 //!
 //! One statement carries the rows through all of this, whatever the method (`HoldRows` of
 //! `specs/Holding`): runs and summaries hold these rows. It is kept by a row more, by two workers'

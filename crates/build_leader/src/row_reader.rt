@@ -139,7 +139,8 @@ impl<'a> RowReader<'a> {
         Ok(true)
     }
 
-    // Fills a list anew with the values of the needed columns, and answers whether WHERE keeps them.
+    // Fills a list anew with the values of the needed columns, and answers whether WHERE keeps
+    // them.
     fn read_needed(
         &self,
         alloc: Global,

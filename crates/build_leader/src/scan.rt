@@ -13,8 +13,8 @@ use std::thread::Threads;
 /// Scans a heap with as many threads as there are seats: each worker claims blocks until none is
 /// left, and puts the rows of an index in them, or their entries, onto a tape of its own in sorted
 /// runs (`_bt_parallel_scan_and_sort` of `nbtsort.c`, `_gin_parallel_scan_and_build` of
-/// `gininsert.c`), or into summaries of its own (`_brin_parallel_scan_and_build` of `brin.c`). A heap with a fault is refused with its first one,
-/// whoever found which.
+/// `gininsert.c`), or into summaries of its own (`_brin_parallel_scan_and_build` of `brin.c`). A
+/// heap with a fault is refused with its first one, whoever found which.
 pub fn scan_heap<Rt: Threads + Sync, G: Gate + Sync>(
     rt: &Rt,
     alloc: Global,

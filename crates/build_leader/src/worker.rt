@@ -24,8 +24,8 @@ pub(crate) struct BlockFault {
     pub cause: u8,
 }
 
-/// A worker's part of a scan: its seat, what the rows of its blocks went into and how many they are,
-/// the row that it is at, and the fault of the least block that it reported. All of it changes
+/// A worker's part of a scan: its seat, what the rows of its blocks went into and how many they
+/// are, the row that it is at, and the fault of the least block that it reported. All of it changes
 /// threads by a move.
 #[derive(Drop)]
 pub(crate) struct Share {

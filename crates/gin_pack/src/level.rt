@@ -64,8 +64,8 @@ impl Level {
         Ok(())
     }
 
-    /// The pages of the level, the last one as far as it is filled. An error means that no memory was
-    /// left.
+    /// The pages of the level, the last one as far as it is filled. An error means that no memory
+    /// was left.
     pub fn finish(self) -> Result<Vec<FullPage>, AllocError>
         ensures { IfOk result (λ pages. (kind : ColType) → (flags : ℕ) → (items : List Item)
             → IsLevelOf kind flags items self → ArePagesOf kind flags items pages.items) }

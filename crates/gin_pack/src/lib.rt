@@ -6,20 +6,20 @@
 //!
 //! # How sorted entries become a tree
 //!
-//! `ginbuild` of `gininsert.c` collects entries in memory and inserts them into the tree, page split
-//! by page split. Entries that come sorted need neither. The records of an entry come together, so
-//! its pointers are gathered until the next entry comes, and then its posting is done and can be
-//! stored: a list that fits goes into the tuple, another becomes a posting tree at once, behind the
-//! blocks that the image has. The tuple goes to the open leaf, or to the next one where it has no
-//! room there. An entry's tuple is at most 2,712 bytes, so that three of them have room on a page: a
-//! leaf is left only when it is filled by more than 5,400 bytes.
+//! `ginbuild` of `gininsert.c` collects entries in memory and inserts them into the tree, page
+//! split by page split. Entries that come sorted need neither. The records of an entry come
+//! together, so its pointers are gathered until the next entry comes, and then its posting is done
+//! and can be stored: a list that fits goes into the tuple, another becomes a posting tree at once,
+//! behind the blocks that the image has. The tuple goes to the open leaf, or to the next one where
+//! it has no room there. An entry's tuple is at most 2,712 bytes, so that three of them have room
+//! on a page: a leaf is left only when it is filled by more than 5,400 bytes.
 //!
 //! Only the storing needs the file. So postings can be gathered on several threads, each over the
 //! sorted records of one range of keys: a `PostingWriter` gathers, and its `PostingRun` has all row
-//! pointers of the range in one buffer, 8 bytes for each, where the records would take many times as
-//! much. An `EntryPacker` stores the runs of the ranges, one behind the other. No entry stands in two
-//! ranges, so each posting is whole. `pack` is for one thread: it stores what is done as the next
-//! record comes, and never has more than one posting beside the one that comes.
+//! pointers of the range in one buffer, 8 bytes for each, where the records would take many times
+//! as much. An `EntryPacker` stores the runs of the ranges, one behind the other. No entry stands
+//! in two ranges, so each posting is whole. `pack` is for one thread: it stores what is done as the
+//! next record comes, and never has more than one posting beside the one that comes.
 //!
 //! The idea that keeps this simple: a page has no number before its level is whole. While entries
 //! come, the leaves wait beside the image, each with the tuple by which the level above will name
@@ -34,11 +34,11 @@
 //! # How it is stated
 //!
 //! The reading of a file (`IsReadAsPostings` of `gin_file`) is said of bytes and knows nothing of
-//! how they came. How a file is built (`HasPostings`) is said by the one definition of trees in levels that
-//! posting trees have too (`posting_tree`): each page but the rightmost of its level has at least
-//! 4,000 bytes of tuples and their line pointers, an item above names a page below by its greatest
-//! entry, and a level has one above it exactly where it has more than one page. `IsGinFile` is
-//! both, over the map of the records.
+//! how they came. How a file is built (`HasPostings`) is said by the one definition of trees in
+//! levels that posting trees have too (`posting_tree`): each page but the rightmost of its level
+//! has at least 4,000 bytes of tuples and their line pointers, an item above names a page below by
+//! its greatest entry, and a level has one above it exactly where it has more than one page.
+//! `IsGinFile` is both, over the map of the records.
 //!
 //! # What it promises
 //!

@@ -98,7 +98,8 @@ impl Packer {
         })
     }
 
-    /// Takes the next record, whose keys may be others then. An error means that no memory was left.
+    /// Takes the next record, whose keys may be others then. An error means that no memory was
+    /// left.
     fn take(&mut self, row: &mut Record) -> Result<(), AllocError>
         requires { IsTaking self.old }
         ensures { OnOk result (Receives self.old self.new row.old.keys row.old.ptr) }

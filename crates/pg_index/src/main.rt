@@ -1,8 +1,8 @@
 //! The program: a command line, the top call, and an exit status.
 //!
 //! A run goes through five stages, each a file of this crate with a contract of its own. The words
-//! are read (`words`), and the two statements among them (`statements`); the heap file is read whole
-//! (`heap_file`); the leader builds the index of its rows in memory, or tells what is refused
+//! are read (`words`), and the two statements among them (`statements`); the heap file is read
+//! whole (`heap_file`); the leader builds the index of its rows in memory, or tells what is refused
 //! (`built_index`, over `build_leader`); and only when the index stands there, with its report
 //! (`report`), is the index file created, written page by page, and the report said (`deliver`,
 //! `index_file`).
