@@ -53,7 +53,7 @@ refused_breaks asked heap first second has =
     let found : IsFirstClash asked.spec rows.0 first second = rows.2 in (
       record {
         unique = has.1.2;
-        whole = has.0;
+        file = has.0;
         sound = has.1.0;
         clash = record {
           sorted = rows.0;
@@ -149,7 +149,7 @@ module _ (words : List (List ℕ)) (files : FileMap) (heap : List ℕ) (asked : 
   breaking_outcome (Statement refused) fault has answered some breaks =
       absurd (not_both (asked_of words) asked refused asks.1 has.1)
   breaking_outcome (OfHeap (OfFile cause block)) fault has answered some breaks =
-      absurd (no_file_fault heap cause block breaks.whole (of_heap has.0 (OfFile cause block) has.1 has.2))
+      absurd (no_file_fault heap cause block breaks.file (of_heap has.0 (OfFile cause block) has.1 has.2))
   breaking_outcome (OfHeap (OfBlocks (Faulty block item cause))) fault has answered some breaks =
       let first = of_heap has.0 (OfBlocks (Faulty block item cause)) has.1 has.2 in
       absurd (no_first_fault asked.table asked.spec heap block item cause breaks.sound first.1)

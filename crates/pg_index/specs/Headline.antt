@@ -3,11 +3,12 @@
 -- the same map from entries to row pointers for a GIN index, and a unique build is refused exactly where two live rows
 -- have equal keys under its null rule, with the first neighbours in the order of the index that have.
 use Rattle.std.specs.Prelude.{◌≡◌, ◌⊎◌, ◌+◌, ◌<◌, ℕ, IsTrue, List, Option, Some, None, AllPairs, slice_get}
-use Rattle.pg_bytes.specs.Blocks.{IsWhole, block_count}
+use Rattle.pg_bytes.specs.Blocks.{block_count}
 use Rattle.pg_bytes.specs.declared.row_ptr.RowPtr.{RowPtr}
 use Rattle.pg_files.specs.Outside.{Outside}
 use Rattle.block_claim.specs.Legal.{IsLegal}
 use Rattle.shared_tape.specs.declared.stored.Record.{Record}
+use Rattle.build_leader.specs.Blocks.{IsHeapFile}
 use Rattle.build_leader.specs.HeapRows.{HasSoundBlocks}
 use Rattle.build_leader.specs.Outcome.{AreSortedRows, AreTakenRows, IsIndexFile}
 use Rattle.build_leader.specs.Unique.{Clash, IsFirstClash}
@@ -31,10 +32,11 @@ pub record SomeClash (asked : Asked) (heap : List ℕ) : Type 0 where
   pub second : slice_get sorted two ≡ Some b
   pub clash : Clash asked.spec a b
 
--- A unique index that its rows don't allow: the heap has whole blocks and no fault, and two rows break the rule.
+-- A unique index that its rows don't allow: the heap has whole blocks, not too many, and no fault, and two rows break
+-- the rule.
 pub record BreaksItsRule (asked : Asked) (heap : List ℕ) : Type 0 where
   pub unique : IsTrue asked.spec.unique
-  pub whole : IsWhole heap
+  pub file : IsHeapFile heap
   pub sound : HasSoundBlocks asked.table asked.spec heap
   pub clash : SomeClash asked heap
 
