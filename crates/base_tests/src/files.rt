@@ -32,8 +32,8 @@ fn reads(rt: HostRuntime) -> Result<(), Fail> {
     Ok(())
 }
 
-// Five calls, of which each may fail, and which of them did.
-fn five_calls<F: Files>(files: &mut F) -> [bool; 5] {
+// Six calls, of which each may fail, and which of them did.
+fn six_calls<F: Files>(files: &mut F) -> [bool; 6] {
     let mut buffer = [0; 8];
     [
         files.create("index").is_err(),
@@ -41,6 +41,7 @@ fn five_calls<F: Files>(files: &mut F) -> [bool; 5] {
         files.append("index", b"two").is_err(),
         files.read("index", 0, &mut buffer).is_err(),
         files.say(b"done").is_err(),
+        files.there("index").is_err(),
     ]
 }
 
@@ -54,12 +55,13 @@ fn fails_where_set(rt: HostRuntime) -> Result<(), Fail> {
         (3, b"one".as_slice(), b"done".as_slice()),
         (4, b"onetwo".as_slice(), b"done".as_slice()),
         (5, b"onetwo".as_slice(), b"".as_slice()),
+        (6, b"onetwo".as_slice(), b"done".as_slice()),
     ];
     for (call, index, said) in cases {
         let mut files = MemFiles::new(alloc);
         files.put("index", bytes(alloc, b"old")?)?;
         files.fail_at(call)?;
-        let failed = five_calls(&mut files);
+        let failed = six_calls(&mut files);
         for (number, failed) in failed.iter().enumerate() {
             assert!(rt; *failed == (number as u64 + 1 == call));
         }
@@ -67,6 +69,48 @@ fn fails_where_set(rt: HostRuntime) -> Result<(), Fail> {
         assert!(rt; files.said() == said);
         assert!(rt; files.refused() == 0);
     }
+    Ok(())
+}
+
+// A call moves so many bytes at most, and what it left takes another one.
+#[test]
+fn moves_pieces(rt: HostRuntime) -> Result<(), Fail> {
+    let alloc = rt.alloc();
+    let cases = [
+        (1, b"p".as_slice(), b"h".as_slice()),
+        (3, b"pie".as_slice(), b"hea".as_slice()),
+        (5, b"piece".as_slice(), b"heap".as_slice()),
+        (65_536, b"piece".as_slice(), b"heap".as_slice()),
+    ];
+    for (most, index, heap) in cases {
+        let mut files = MemFiles::new(alloc);
+        files.put("heap", bytes(alloc, b"heap")?)?;
+        files.piece(most);
+        assert!(rt; files.append("index", b"piece")? == index.len());
+        assert!(rt; files.file("index") == Some(index));
+        let mut buffer = [0; 8];
+        let count = files.read("heap", 0, &mut buffer)?;
+        assert!(rt; &buffer[..count] == heap);
+    }
+    Ok(())
+}
+
+#[test]
+fn tells_which_files_are_there(rt: HostRuntime) -> Result<(), Fail> {
+    let alloc = rt.alloc();
+    let mut files = MemFiles::new(alloc);
+    files.put("heap", bytes(alloc, b"")?)?;
+    assert!(rt; files.there("heap")?);
+    assert!(rt; !files.there("heap.1")?);
+    let name = "pg_files_there.tmp";
+    let mut files = RealFiles::new(&rt);
+    files.create(name)?;
+    assert!(rt; files.there(name)?);
+    fs::remove_file(&rt, name)?;
+    assert!(rt; !files.there(name)?);
+    // A folder is there, and of what lies behind a file nothing can be said.
+    assert!(rt; files.there(".")?);
+    assert!(rt; files.there("/dev/null/file").is_err());
     Ok(())
 }
 

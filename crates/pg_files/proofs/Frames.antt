@@ -1,6 +1,6 @@
 -- What calls leave alone, they leave alone one after the other.
 use Rattle.std.proofs.Common.{◌≡◌, ℕ, List, Option, Some, None, refl, ap, ◌∙◌, arith}
-use Rattle.pg_files.specs.Outside.{FileMap, KeepsOthers, NoneFalls, OnlyReads, OnlySays, OnlyWrites, OnlyWritesAndSays, Outside}
+use Rattle.pg_files.specs.Outside.{FileMap, KeepsOthers, NoneFalls, OnlyAsks, OnlyReads, OnlySays, OnlyWrites, OnlyWritesAndSays, Outside}
 
 pub KeepsOthers-refl : (name : List ℕ) (files : Option FileMap) → KeepsOthers name files files
 KeepsOthers-refl name None = refl
@@ -25,7 +25,7 @@ NoneFalls-same old new same = λ name. omega (arith, ap (λ (counts : List ℕ �
 
 -- no call at all
 pub OnlyReads-refl : (old : Outside) → OnlyReads old old
-OnlyReads-refl old = record { files = refl; said = refl; read_faults = NoneFalls-same old.read_faults old.read_faults refl; write_faults = refl; say_faults = refl }
+OnlyReads-refl old = record { files = refl; said = refl; read_faults = NoneFalls-same old.read_faults old.read_faults refl; write_faults = refl; ask_faults = refl; say_faults = refl }
 
 pub OnlyReads-trans : (old mid new : Outside) → OnlyReads old mid → OnlyReads mid new → OnlyReads old new
 OnlyReads-trans old mid new first second = record {
@@ -33,6 +33,20 @@ OnlyReads-trans old mid new first second = record {
   said = second.said ∙ first.said;
   read_faults = NoneFalls-trans old.read_faults mid.read_faults new.read_faults first.read_faults second.read_faults;
   write_faults = second.write_faults ∙ first.write_faults;
+  ask_faults = second.ask_faults ∙ first.ask_faults;
+  say_faults = second.say_faults ∙ first.say_faults;
+}
+
+pub OnlyAsks-refl : (old : Outside) → OnlyAsks old old
+OnlyAsks-refl old = record { files = refl; said = refl; read_faults = refl; write_faults = refl; ask_faults = NoneFalls-same old.ask_faults old.ask_faults refl; say_faults = refl }
+
+pub OnlyAsks-trans : (old mid new : Outside) → OnlyAsks old mid → OnlyAsks mid new → OnlyAsks old new
+OnlyAsks-trans old mid new first second = record {
+  files = second.files ∙ first.files;
+  said = second.said ∙ first.said;
+  read_faults = second.read_faults ∙ first.read_faults;
+  write_faults = second.write_faults ∙ first.write_faults;
+  ask_faults = NoneFalls-trans old.ask_faults mid.ask_faults new.ask_faults first.ask_faults second.ask_faults;
   say_faults = second.say_faults ∙ first.say_faults;
 }
 
@@ -42,6 +56,7 @@ OnlyWrites-refl name old = record {
   said = refl;
   read_faults = refl;
   write_faults = NoneFalls-same old.write_faults old.write_faults refl;
+  ask_faults = refl;
   say_faults = refl;
 }
 
@@ -51,17 +66,19 @@ OnlyWrites-trans name old mid new first second = record {
   said = second.said ∙ first.said;
   read_faults = second.read_faults ∙ first.read_faults;
   write_faults = NoneFalls-trans old.write_faults mid.write_faults new.write_faults first.write_faults second.write_faults;
+  ask_faults = second.ask_faults ∙ first.ask_faults;
   say_faults = second.say_faults ∙ first.say_faults;
 }
 
 pub OnlySays-refl : (old : Outside) → OnlySays old old
-OnlySays-refl old = record { files = refl; read_faults = refl; write_faults = refl; say_faults = omega arith }
+OnlySays-refl old = record { files = refl; read_faults = refl; write_faults = refl; ask_faults = refl; say_faults = omega arith }
 
 pub OnlySays-trans : (old mid new : Outside) → OnlySays old mid → OnlySays mid new → OnlySays old new
 OnlySays-trans old mid new first second = record {
   files = second.files ∙ first.files;
   read_faults = second.read_faults ∙ first.read_faults;
   write_faults = second.write_faults ∙ first.write_faults;
+  ask_faults = second.ask_faults ∙ first.ask_faults;
   say_faults = omega (arith, first.say_faults, second.say_faults);
 }
 
@@ -71,6 +88,7 @@ OnlyWritesAndSays-writes name old new wrote = record {
   others = wrote.others;
   read_faults = wrote.read_faults;
   write_faults = wrote.write_faults;
+  ask_faults = wrote.ask_faults;
   say_faults = omega (arith, wrote.say_faults);
 }
 
@@ -80,5 +98,6 @@ OnlyWritesAndSays-says name old mid new wrote said = record {
   others = KeepsOthers-trans name old.files mid.files new.files wrote.others (KeepsOthers-same name mid.files new.files said.files);
   read_faults = said.read_faults ∙ wrote.read_faults;
   write_faults = NoneFalls-trans old.write_faults mid.write_faults new.write_faults wrote.write_faults (NoneFalls-same mid.write_faults new.write_faults said.write_faults);
+  ask_faults = said.ask_faults ∙ wrote.ask_faults;
   say_faults = omega (arith, wrote.say_faults, said.say_faults);
 }

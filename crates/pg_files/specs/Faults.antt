@@ -29,6 +29,10 @@ CountsReadFailure name result old new = CountsFailureOf name result old.read_fau
 abbrev pub CountsWriteFailure : {T : Type 0} → List ℕ → Result T Failed → Outside → Outside → Type 0
 CountsWriteFailure name result old new = CountsFailureOf name result old.write_faults new.write_faults
 
+-- asking for a file counts its failure
+abbrev pub CountsAskFailure : {T : Type 0} → List ℕ → Result T Failed → Outside → Outside → Type 0
+CountsAskFailure name result old new = CountsFailureOf name result old.ask_faults new.ask_faults
+
 -- saying counts its failure
 abbrev pub CountsSayFailure : {T : Type 0} → Result T Failed → Outside → Outside → Type 0
 CountsSayFailure result old new = CountsFailure result old.say_faults new.say_faults

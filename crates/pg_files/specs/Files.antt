@@ -1,5 +1,5 @@
 -- What each call of the trait `Files` does to the outside, as far as it is told.
-use Rattle.std.specs.Prelude.{◌≡◌, ◌⊎◌, ℕ, ◌<◌, ◌≤◌, List, [], ◌++◌, length, take, drop, Option, Some, None, unwrap_or, Result, Ok, Err, ⊤}
+use Rattle.std.specs.Prelude.{◌≡◌, ◌⊎◌, ℕ, ◌<◌, ◌≤◌, List, [], ◌++◌, length, take, drop, Option, Some, None, is_some, unwrap_or, Bool, Result, Ok, Err, ⊤}
 use Rattle.pg_files.specs.Outside.{FileMap, Outside, SameOthers}
 use Rattle.pg_files.specs.declared.files.Failed.{Failed}
 
@@ -68,3 +68,13 @@ ToldGives (Some files) name place count buffer = GivesBytes (files name) place c
 abbrev pub Reads : List ℕ → ℕ → Result ℕ Failed → List ℕ → Outside → Type 0
 Reads name place (Err e) buffer outside = ⊤
 Reads name place (Ok count) buffer outside = ToldGives outside.files name place count buffer
+
+-- whether a file is there, of files that may not be told
+abbrev pub ToldIsThere : Option FileMap → List ℕ → Bool → Type 0
+ToldIsThere None name found = ⊤
+ToldIsThere (Some files) name found = found ≡ is_some (files name)
+
+-- what asking for a file tells that answers so
+abbrev pub IsThere : List ℕ → Result Bool Failed → Outside → Type 0
+IsThere name (Err e) outside = ⊤
+IsThere name (Ok found) outside = ToldIsThere outside.files name found

@@ -15,6 +15,8 @@ pub record Outside : Type 0 where
   pub read_faults : List ℕ → ℕ
   -- how often each file's making or growing failed
   pub write_faults : List ℕ → ℕ
+  -- how often asking for each file failed
+  pub ask_faults : List ℕ → ℕ
   -- how often saying failed
   pub say_faults : ℕ
 
@@ -38,6 +40,17 @@ pub record OnlyReads (old new : Outside) : Type 0 where
   pub said : new.said ≡ old.said
   pub read_faults : NoneFalls old.read_faults new.read_faults
   pub write_faults : new.write_faults ≡ old.write_faults
+  pub ask_faults : new.ask_faults ≡ old.ask_faults
+  pub say_faults : new.say_faults ≡ old.say_faults
+
+-- Nothing happened but asking which files are there: all is as before, save that counts of failures to ask may have
+-- risen.
+pub record OnlyAsks (old new : Outside) : Type 0 where
+  pub files : new.files ≡ old.files
+  pub said : new.said ≡ old.said
+  pub read_faults : new.read_faults ≡ old.read_faults
+  pub write_faults : new.write_faults ≡ old.write_faults
+  pub ask_faults : NoneFalls old.ask_faults new.ask_faults
   pub say_faults : new.say_faults ≡ old.say_faults
 
 -- Nothing happened but writes of this file: all else is as before, save that counts of failed writes may have risen.
@@ -46,6 +59,7 @@ pub record OnlyWrites (name : List ℕ) (old new : Outside) : Type 0 where
   pub said : new.said ≡ old.said
   pub read_faults : new.read_faults ≡ old.read_faults
   pub write_faults : NoneFalls old.write_faults new.write_faults
+  pub ask_faults : new.ask_faults ≡ old.ask_faults
   pub say_faults : new.say_faults ≡ old.say_faults
 
 -- Nothing happened but saying: all else is as before, save that the count of failures to say may have risen.
@@ -53,6 +67,7 @@ pub record OnlySays (old new : Outside) : Type 0 where
   pub files : new.files ≡ old.files
   pub read_faults : new.read_faults ≡ old.read_faults
   pub write_faults : new.write_faults ≡ old.write_faults
+  pub ask_faults : new.ask_faults ≡ old.ask_faults
   pub say_faults : old.say_faults ≤ new.say_faults
 
 -- Nothing happened but writes of this file, and saying.
@@ -60,4 +75,5 @@ pub record OnlyWritesAndSays (name : List ℕ) (old new : Outside) : Type 0 wher
   pub others : KeepsOthers name old.files new.files
   pub read_faults : new.read_faults ≡ old.read_faults
   pub write_faults : NoneFalls old.write_faults new.write_faults
+  pub ask_faults : new.ask_faults ≡ old.ask_faults
   pub say_faults : old.say_faults ≤ new.say_faults

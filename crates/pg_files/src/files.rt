@@ -1,7 +1,7 @@
 ghost use Rattle.std.specs.Prelude.{◌≡◌, ◌<◌, ◌≤◌, ◌^◌, length, take, IfOk, OnOk, OnErr};
-ghost use Rattle.pg_files.specs.Faults.{CountsReadFailure, CountsSayFailure, CountsWriteFailure};
-ghost use Rattle.pg_files.specs.Files.{Appends, AppendsFront, Empties, MayEmpty, Reads, Says, SaysFront};
-ghost use Rattle.pg_files.specs.Outside.{OnlyReads, OnlySays, OnlyWrites, Outside};
+ghost use Rattle.pg_files.specs.Faults.{CountsAskFailure, CountsReadFailure, CountsSayFailure, CountsWriteFailure};
+ghost use Rattle.pg_files.specs.Files.{Appends, AppendsFront, Empties, IsThere, MayEmpty, Reads, Says, SaysFront};
+ghost use Rattle.pg_files.specs.Outside.{OnlyAsks, OnlyReads, OnlySays, OnlyWrites, Outside};
 
 /// A call to the outside failed. Which kind of call it was, and of which file, the counts tell.
 #[derive(Clone, Copy, Debug, PartialEq, Eq)]
@@ -44,6 +44,12 @@ pub trait Files {
             → (outside self.new).files ≡ (outside self.old).files }
         ensures faults { CountsWriteFailure name.now result (outside self.old) (outside self.new) }
         ensures only { OnlyWrites name.now (outside self.old) (outside self.new) };
+
+    /// Whether a file of this name is there.
+    fn there(&mut self, name: &str) -> Result<bool, Failed>
+        ensures found { IsThere name.now result (outside self.old) }
+        ensures faults { CountsAskFailure name.now result (outside self.old) (outside self.new) }
+        ensures only { OnlyAsks (outside self.old) (outside self.new) };
 
     /// Says a whole text on standard output. After a failure a front of it was said.
     fn say(&mut self, text: &[u8]) -> Result<(), Failed>

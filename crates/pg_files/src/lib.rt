@@ -13,16 +13,17 @@
 //! # What it promises
 //!
 //! - Of both objects, all that the trait says. What a call leaves alone is one clause, `only`: a
-//!   read changes counts of failed reads alone (`OnlyReads`), making or growing a file that file
-//!   and counts of failed writes (`OnlyWrites`), saying what was said and its count (`OnlySays`).
+//!   read changes counts of failed reads alone (`OnlyReads`), asking whether a file is there counts
+//!   of failures to ask (`OnlyAsks`), making or growing a file that file and counts of failed writes
+//!   (`OnlyWrites`), saying what was said and its count (`OnlySays`).
 //! - No call of `RealFiles` answers a failure of the system with a success: `counted`, through
 //!   which each outcome goes, can't make the value of a success (its clause `err`).
 //! - Of `MemFiles` more, on its own methods of the trait's names. Its calls are numbered from 1,
-//!   all four kinds together, and a call fails exactly where `fail_at` set its number, where it
+//!   all five kinds together, and a call fails exactly where `fail_at` set its number, where it
 //!   reads an absent file, or where it found no memory (`failed`). A read gives as much as there is
-//!   and fits, an append takes the whole piece, and a call that fails changes neither files nor
-//!   what was said (`whole`, `after_ok`, `after_err`). So a drill can let each call of a run fail
-//!   in turn, and know what is left.
+//!   and fits, an append takes the whole piece, both no more than `piece` lets a call move, and a
+//!   call that fails changes neither files nor what was said (`whole`, `count`, `after_ok`,
+//!   `after_err`). So a drill can let each call of a run fail in turn, and know what is left.
 //!
 //! # What is not
 //!

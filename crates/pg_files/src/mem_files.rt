@@ -1,8 +1,8 @@
-ghost use Rattle.std.specs.Prelude.{◌≡◌, ◌↔◌, ◌⊎◌, ◌<◌, [], ◌∷◌, ◌++◌, length, IsErr, IsNone, IsTrue, IfOk, OnOk, OnErr, MatchOption};
+ghost use Rattle.std.specs.Prelude.{◌≡◌, ◌↔◌, ◌⊎◌, ◌<◌, ◌≤◌, [], ◌∷◌, ◌++◌, length, min, take, is_some, IsErr, IsNone, IsTrue, IfOk, OnOk, OnErr, MatchOption};
 ghost use Rattle.pg_files.specs.Faults.{most_faults};
 ghost use Rattle.pg_files.specs.Files.{SetsFile, content};
 ghost use Rattle.pg_files.specs.Memory.{read_count, read_over};
-ghost use Rattle.pg_files.specs.Outside.{OnlyReads, OnlySays, OnlyWrites, SameOthers};
+ghost use Rattle.pg_files.specs.Outside.{OnlyAsks, OnlyReads, OnlySays, OnlyWrites, SameOthers};
 
 use crate::counted::counted;
 use crate::files::{Failed, Files};
@@ -19,17 +19,21 @@ pub struct MemFiles {
     files: Vec<NamedFile>,
     said: Vec<u8>,
     failing: Vec<u64>,
+    // How many bytes a read or an append moves at most, less one: there is no bound of none.
+    beyond_one: usize,
     calls: u64,
     read_faults: u64,
     write_faults: u64,
+    ask_faults: u64,
     say_faults: u64,
     refused: u64,
 }
 
 impl MemFiles {
-    ghost use Rattle.pg_files.specs.Memory.{GivesAllThatFits, called, fresh, is_set_to_fail, memory, outside_of, refused_unless_set, with_files, with_read_fault, with_say_fault, with_write_fault};
+    ghost use Rattle.pg_files.specs.Memory.{GivesAllThatFits, called, fresh, is_set_to_fail, memory, outside_of, refused_unless_set, with_ask_fault, with_files, with_read_fault, with_say_fault, with_write_fault};
 
-    /// No files, nothing said, no call set to fail, and all counts 0. It takes no memory.
+    /// No files, nothing said, no call set to fail, no bound on the bytes that a call moves, and all
+    /// counts 0. It takes no memory.
     pub fn new(alloc: Global) -> MemFiles
         ensures { memory result ≡ fresh }
     {
@@ -38,9 +42,11 @@ impl MemFiles {
             files: Vec::new(alloc),
             said: Vec::new(alloc),
             failing: Vec::new(alloc),
+            beyond_one: usize::MAX,
             calls: 0,
             read_faults: 0,
             write_faults: 0,
+            ask_faults: 0,
             say_faults: 0,
             refused: 0,
         }
@@ -69,6 +75,14 @@ impl MemFiles {
         Ok(())
     }
 
+    /// From now on a read or an append moves at most so many bytes. It takes no memory.
+    pub fn piece(&mut self, most: usize)
+        requires { 1 ≤ most }
+        ensures { memory self.new ≡ record (memory self.old) { most = most } }
+    {
+        self.beyond_one = most - 1;
+    }
+
     /// The bytes of a file, or none where no such file is there.
     pub fn file(&self, name: &str) -> Option<&[u8]>
         ensures { MatchOption result ((memory self.now).files name.now ≡ None) (λ bytes.
@@ -93,14 +107,15 @@ impl MemFiles {
         self.refused
     }
 
-    /// Reads as `Files` has it: as much as there is and fits. It fails exactly where it is set to
-    /// or the file is absent, and then the buffer is as before.
+    /// Reads as `Files` has it: as much as there is, fits and is moved at most. It fails exactly
+    /// where it is set to or the file is absent, and then the buffer is as before.
     pub fn read(&mut self, name: &str, at: u64, into: &mut [u8]) -> Result<usize, Failed>
         ensures failed { IsErr result
             ↔ (IsTrue (is_set_to_fail (memory self.old))
             ⊎ ((memory self.old).files name.now ≡ None)) }
         ensures whole { IfOk result (λ count.
-            GivesAllThatFits ((memory self.old).files name.now) at count into.old into.new) }
+            GivesAllThatFits (memory self.old).most ((memory self.old).files name.now)
+            at count into.old into.new) }
         ensures untouched { OnErr result (into.new ≡ into.old) }
         ensures after_ok { OnOk result (memory self.new ≡ called (memory self.old)) }
         ensures after_err { OnErr result (memory self.new
@@ -131,15 +146,17 @@ impl MemFiles {
         counted(self.try_create(name), &mut self.write_faults)
     }
 
-    /// Adds a whole piece at a file's end as `Files` has it. It fails exactly where it is set to or
-    /// finds no memory, and then the files are as before.
+    /// Adds a piece at a file's end as `Files` has it: the whole, or as much as is moved at most. It
+    /// fails exactly where it is set to or finds no memory, and then the files are as before.
     pub fn append(&mut self, name: &str, piece: &[u8]) -> Result<usize, Failed>
         ensures failed { (memory self.old).refused < most_faults → IsErr result
             ↔ (IsTrue (is_set_to_fail (memory self.old))
             ⊎ ((memory self.old).refused < (memory self.new).refused)) }
-        ensures whole { IfOk result (λ count. count ≡ length piece.now) }
-        ensures appended { OnOk result (0 < length piece.now
-            → SetsFile name.now (content ((memory self.old).files name.now) ++ piece.now)
+        ensures count { IfOk result (λ count.
+            count ≡ min (memory self.old).most (length piece.now)) }
+        ensures appended { IfOk result (λ count. 0 < length piece.now
+            → SetsFile name.now
+            (content ((memory self.old).files name.now) ++ take count piece.now)
             (memory self.old).files (memory self.new).files) }
         ensures empty { length piece.now ≡ 0 → (memory self.new).files ≡ (memory self.old).files }
         ensures after_ok { OnOk result (memory self.new
@@ -150,6 +167,19 @@ impl MemFiles {
             (outside_of (memory self.old)) (outside_of (memory self.new)) }
     {
         counted(self.try_append(name, piece), &mut self.write_faults)
+    }
+
+    /// Whether a file is there, as `Files` has it. It fails exactly where it is set to.
+    pub fn there(&mut self, name: &str) -> Result<bool, Failed>
+        ensures failed { IsErr result ↔ IsTrue (is_set_to_fail (memory self.old)) }
+        ensures found { IfOk result (λ found.
+            found ≡ is_some ((memory self.old).files name.now)) }
+        ensures after_ok { OnOk result (memory self.new ≡ called (memory self.old)) }
+        ensures after_err { OnErr result (memory self.new
+            ≡ with_ask_fault (called (memory self.old))) }
+        ensures only { OnlyAsks (outside_of (memory self.old)) (outside_of (memory self.new)) }
+    {
+        counted(self.try_there(name), &mut self.ask_faults)
     }
 
     /// Says a whole text as `Files` has it. It fails exactly where it is set to or finds no memory,
@@ -179,13 +209,21 @@ impl MemFiles {
         Ok(())
     }
 
-    // A read whose failure isn't counted yet. So are the other three.
+    // How many of so many bytes a read or an append moves.
+    fn moved(&self, count: usize) -> usize
+        ensures { result ≡ min (memory self.now).most count }
+    {
+        count.min(self.beyond_one.saturating_add(1))
+    }
+
+    // A read whose failure isn't counted yet. So are the other four.
     fn try_read(&mut self, name: &str, at: usize, into: &mut [u8]) -> Result<usize, Failed>
         ensures failed { IsErr result
             ↔ (IsTrue (is_set_to_fail (memory self.old))
             ⊎ ((memory self.old).files name.now ≡ None)) }
         ensures whole { IfOk result (λ count.
-            GivesAllThatFits ((memory self.old).files name.now) at count into.old into.new) }
+            GivesAllThatFits (memory self.old).most ((memory self.old).files name.now)
+            at count into.old into.new) }
         ensures untouched { OnErr result (into.new ≡ into.old) }
         ensures after { memory self.new ≡ called (memory self.old) }
     {
@@ -196,14 +234,16 @@ impl MemFiles {
         }
     }
 
-    // Reads what there is of a file and fits. None where no such file is there.
+    // Reads what there is of a file, fits and is moved. None where no such file is there.
     fn read_file(&self, name: &str, at: usize, into: &mut [u8]) -> Option<usize>
         ensures count { MatchOption result ((memory self.now).files name.now ≡ None) (λ count.
-            GivesAllThatFits ((memory self.now).files name.now) at count into.old into.new) }
+            GivesAllThatFits (memory self.now).most ((memory self.now).files name.now)
+            at count into.old into.new) }
         ensures kept { IsNone result → into.new ≡ into.old }
     {
         let bytes = self.file(name)?;
-        Some(copy_from(bytes, at, into))
+        let most = self.moved(into.len());
+        Some(copy_from(bytes, at, most, into))
     }
 
     fn try_create(&mut self, name: &str) -> Result<(), Failed>
@@ -233,9 +273,11 @@ impl MemFiles {
         ensures failed { (memory self.old).refused < most_faults → IsErr result
             ↔ (IsTrue (is_set_to_fail (memory self.old))
             ⊎ ((memory self.old).refused < (memory self.new).refused)) }
-        ensures whole { IfOk result (λ count. count ≡ length piece.now) }
-        ensures appended { OnOk result (0 < length piece.now
-            → SetsFile name.now (content ((memory self.old).files name.now) ++ piece.now)
+        ensures count { IfOk result (λ count.
+            count ≡ min (memory self.old).most (length piece.now)) }
+        ensures appended { IfOk result (λ count. 0 < length piece.now
+            → SetsFile name.now
+            (content ((memory self.old).files name.now) ++ take count piece.now)
             (memory self.old).files (memory self.new).files) }
         ensures empty { length piece.now ≡ 0 → (memory self.new).files ≡ (memory self.old).files }
         ensures after_ok { OnOk result (memory self.new
@@ -251,11 +293,22 @@ impl MemFiles {
         if piece.is_empty() {
             return Ok(0);
         }
+        let count = self.moved(piece.len());
         counted(
-            grow_file(self.alloc, &mut self.files, name, piece),
+            grow_file(self.alloc, &mut self.files, name, &piece[..count]),
             &mut self.refused,
         )?;
-        Ok(piece.len())
+        Ok(count)
+    }
+
+    fn try_there(&mut self, name: &str) -> Result<bool, Failed>
+        ensures failed { IsErr result ↔ IsTrue (is_set_to_fail (memory self.old)) }
+        ensures found { IfOk result (λ found.
+            found ≡ is_some ((memory self.old).files name.now)) }
+        ensures after { memory self.new ≡ called (memory self.old) }
+    {
+        self.begin()?;
+        Ok(self.file(name).is_some())
     }
 
     fn try_say(&mut self, text: &[u8]) -> Result<(), Failed>
@@ -292,18 +345,22 @@ impl Files for MemFiles {
         MemFiles::append(self, name, piece)
     }
 
+    fn there(&mut self, name: &str) -> Result<bool, Failed> {
+        MemFiles::there(self, name)
+    }
+
     fn say(&mut self, text: &[u8]) -> Result<(), Failed> {
         MemFiles::say(self, text)
     }
 }
 
-// Copies what there is from a place on and fits, and answers how much.
-fn copy_from(bytes: &[u8], at: usize, into: &mut [u8]) -> usize
-    ensures count { result ≡ read_count bytes.now at into.old }
-    ensures buffer { into.new ≡ read_over bytes.now at into.old }
+// Copies what there is from a place on, fits and is moved at most, and answers how much.
+fn copy_from(bytes: &[u8], at: usize, most: usize, into: &mut [u8]) -> usize
+    ensures count { result ≡ read_count most bytes.now at into.old }
+    ensures buffer { into.new ≡ read_over most bytes.now at into.old }
 {
     let rest = &bytes[at.min(bytes.len())..];
-    let count = rest.len().min(into.len());
+    let count = rest.len().min(into.len()).min(most);
     into[..count].copy_from_slice(&rest[..count]);
     count
 }

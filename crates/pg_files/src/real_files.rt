@@ -21,6 +21,7 @@ pub struct RealFiles<'a, Rt: FileSystem> {
     grown: Option<KeptFile<Rt::File>>,
     read_faults: u64,
     write_faults: u64,
+    ask_faults: u64,
     say_faults: u64,
 }
 
@@ -32,6 +33,7 @@ impl<'a, Rt: FileSystem> Model for RealFiles<'a, Rt> {
     ghost view = { λ real. record {
       reads = real.read_faults;
       writes = real.write_faults;
+      asks = real.ask_faults;
       says = real.say_faults;
     } };
 }
@@ -49,6 +51,7 @@ impl<'a, Rt: FileSystem> RealFiles<'a, Rt> {
             grown: None,
             read_faults: 0,
             write_faults: 0,
+            ask_faults: 0,
             say_faults: 0,
         }
     }
@@ -76,6 +79,10 @@ impl<'a, Rt: FileSystem + Print> Files for RealFiles<'a, Rt> {
             append_file(self.rt, &mut self.grown, name, piece),
             &mut self.write_faults,
         )
+    }
+
+    fn there(&mut self, name: &str) -> Result<bool, Failed> {
+        counted(fs::exists(self.rt, name), &mut self.ask_faults)
     }
 
     fn say(&mut self, text: &[u8]) -> Result<(), Failed> {

@@ -20,4 +20,4 @@ returns-clause-others c =
 pub returns-clause-appended : goal.returns-clause-appended
 returns-clause-appended c =
     let sets = passes _ c.grow_file.result c.counted.result c.in_ok-counted.field-0 c.counted.ensures.err c.in_ok-counted.was c.grow_file.ensures.ok in
-    λ some. grows_after c.args.name.now c.args.piece.now (memory c.args.self.now) (memory c.begin.new.self) (file_map c.grow_file.new.files.items) c.begin.ensures.counted sets
+    λ some. grows_after c.args.name.now _ (memory c.args.self.now) (memory c.begin.new.self) (file_map c.grow_file.new.files.items) c.begin.ensures.counted sets
