@@ -1,4 +1,4 @@
-//! Tests of `pg_bytes`, `pg_files` and `block_claim`.
+//! Tests of `pg_bytes`, `pg_files`, `segments` and `block_claim`.
 //!
 //! A crate with tests is proved a second time with them, so they stand apart from what they try.
 //! There is no other code here.
@@ -11,3 +11,5 @@ mod claims;
 mod files;
 #[cfg(test)]
 mod pages;
+#[cfg(test)]
+mod segments;

@@ -1,6 +1,6 @@
 -- What calls leave alone, they leave alone one after the other.
 use Rattle.std.proofs.Common.{◌≡◌, ℕ, List, Option, Some, None, refl, ap, ◌∙◌, arith}
-use Rattle.pg_files.specs.Outside.{FileMap, KeepsOthers, NoneFalls, OnlyAsks, OnlyReads, OnlySays, OnlyWrites, OnlyWritesAndSays, Outside}
+use Rattle.pg_files.specs.Outside.{FileMap, KeepsOthers, NoneFalls, OnlyAsks, OnlyReads, OnlyReadsAndAsks, OnlySays, OnlyWrites, OnlyWritesAndSays, Outside}
 
 pub KeepsOthers-refl : (name : List ℕ) (files : Option FileMap) → KeepsOthers name files files
 KeepsOthers-refl name None = refl
@@ -48,6 +48,40 @@ OnlyAsks-trans old mid new first second = record {
   write_faults = second.write_faults ∙ first.write_faults;
   ask_faults = NoneFalls-trans old.ask_faults mid.ask_faults new.ask_faults first.ask_faults second.ask_faults;
   say_faults = second.say_faults ∙ first.say_faults;
+}
+
+pub OnlyReadsAndAsks-refl : (old : Outside) → OnlyReadsAndAsks old old
+OnlyReadsAndAsks-refl old = record { files = refl; said = refl; read_faults = NoneFalls-same old.read_faults old.read_faults refl; write_faults = refl; ask_faults = NoneFalls-same old.ask_faults old.ask_faults refl; say_faults = refl }
+
+pub OnlyReadsAndAsks-trans : (old mid new : Outside) → OnlyReadsAndAsks old mid → OnlyReadsAndAsks mid new → OnlyReadsAndAsks old new
+OnlyReadsAndAsks-trans old mid new first second = record {
+  files = second.files ∙ first.files;
+  said = second.said ∙ first.said;
+  read_faults = NoneFalls-trans old.read_faults mid.read_faults new.read_faults first.read_faults second.read_faults;
+  write_faults = second.write_faults ∙ first.write_faults;
+  ask_faults = NoneFalls-trans old.ask_faults mid.ask_faults new.ask_faults first.ask_faults second.ask_faults;
+  say_faults = second.say_faults ∙ first.say_faults;
+}
+
+-- reads alone are reads and asking, and so is asking alone
+pub OnlyReadsAndAsks-reads : (old new : Outside) → OnlyReads old new → OnlyReadsAndAsks old new
+OnlyReadsAndAsks-reads old new read = record {
+  files = read.files;
+  said = read.said;
+  read_faults = read.read_faults;
+  write_faults = read.write_faults;
+  ask_faults = NoneFalls-same old.ask_faults new.ask_faults read.ask_faults;
+  say_faults = read.say_faults;
+}
+
+pub OnlyReadsAndAsks-asks : (old new : Outside) → OnlyAsks old new → OnlyReadsAndAsks old new
+OnlyReadsAndAsks-asks old new asked = record {
+  files = asked.files;
+  said = asked.said;
+  read_faults = NoneFalls-same old.read_faults new.read_faults asked.read_faults;
+  write_faults = asked.write_faults;
+  ask_faults = asked.ask_faults;
+  say_faults = asked.say_faults;
 }
 
 pub OnlyWrites-refl : (name : List ℕ) (old : Outside) → OnlyWrites name old old

@@ -53,6 +53,15 @@ pub record OnlyAsks (old new : Outside) : Type 0 where
   pub ask_faults : NoneFalls old.ask_faults new.ask_faults
   pub say_faults : new.say_faults ≡ old.say_faults
 
+-- Nothing happened but reads, and asking which files are there.
+pub record OnlyReadsAndAsks (old new : Outside) : Type 0 where
+  pub files : new.files ≡ old.files
+  pub said : new.said ≡ old.said
+  pub read_faults : NoneFalls old.read_faults new.read_faults
+  pub write_faults : new.write_faults ≡ old.write_faults
+  pub ask_faults : NoneFalls old.ask_faults new.ask_faults
+  pub say_faults : new.say_faults ≡ old.say_faults
+
 -- Nothing happened but writes of this file: all else is as before, save that counts of failed writes may have risen.
 pub record OnlyWrites (name : List ℕ) (old new : Outside) : Type 0 where
   pub others : KeepsOthers name old.files new.files
