@@ -8,3 +8,15 @@ pub mod Keeping
 pub mod Separation
 -- tuples filled up with zeros
 pub mod Filling
+-- what stands at the front of an index tuple
+pub mod TupleFronts
+-- the values that are read of it
+pub mod TupleReads
+-- row pointers one behind the other
+pub mod Pointers
+-- fronts, sizes and row pointers of a B-tree's tuples
+pub mod ItemFronts
+-- what they are read as
+pub mod ItemReads
+-- bytes are one tuple at most
+pub mod ItemsApart

@@ -1,5 +1,5 @@
 -- What holds of the tuples of a B-tree, whatever their values are.
-use Rattle.std.specs.Prelude.{◌≡◌, ◌≢◌, ℕ, ◌+◌, None, List, length, drop}
+use Rattle.std.specs.Prelude.{◌≡◌, ◌≢◌, ℕ, ◌+◌, ◌≤◌, None, List, length, drop}
 use Rattle.std.specs.declared.cmp.Ordering.TheVariants.{Less, Greater}
 use Rattle.std.specs.Prelude.{Option}
 use Rattle.pg_bytes.specs.declared.row_ptr.RowPtr.{RowPtr}
@@ -7,10 +7,13 @@ use Rattle.opclass.specs.declared.spec.SortPart.{SortPart}
 use Rattle.opclass.specs.declared.types.ColType.{ColType}
 use Rattle.opclass.specs.declared.value.KeyVal.{KeyVal}
 use Rattle.opclass.specs.Order.{pointer_cmp, row_cmp}
+use Rattle.tuple_data.specs.Reading.{AreStored}
 use Rattle.btree_item.specs.Tuple.{size_of}
 use Rattle.btree_item.specs.Leaf.{plain_image, posting_image, posting_size}
 use Rattle.btree_item.specs.Pivot.{image_of_attributes, kept_of, minus_infinity, pivot_cmp, pivot_image, tail_size}
 use Rattle.btree_item.specs.Truncation.{KeepsUpToDifference}
+use Rattle.btree_item.specs.Item.{IsTupleOf}
+use Rattle.btree_item.specs.declared.item.Item.{Item}
 
 -- rows with the same values have the same plain images up to the row pointer
 abbrev pub EqualValuesHaveEqualImages : Type 0
@@ -48,3 +51,9 @@ PivotsSeparate =
     → pointer_cmp ptr greatest ≢ Greater → row_cmp parts (left, greatest) (right, next) ≡ Less
     → (pivot_cmp parts (kept_of right greatest kept) (left, ptr) ≢ Less)
     × (pivot_cmp parts (kept_of right greatest kept) (right, next) ≡ Less)
+
+-- bytes are the tuple of one item at most
+abbrev pub TuplesAreToldApart : Type 0
+TuplesAreToldApart =
+    (kinds : List ColType) (bytes : List ℕ) (said other : Item)
+    → length kinds ≤ 32 → AreStored kinds → IsTupleOf kinds bytes said → IsTupleOf kinds bytes other → said ≡ other

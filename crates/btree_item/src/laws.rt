@@ -1,6 +1,6 @@
 //! What holds of the tuples of a B-tree, whatever their values are.
 
-ghost use Rattle.btree_item.specs.Laws.{EqualValuesHaveEqualImages, ImagesHaveTheirSizes, NothingKeptIsMinusInfinity, PivotsSeparate, TruncationIsDetermined};
+ghost use Rattle.btree_item.specs.Laws.{EqualValuesHaveEqualImages, ImagesHaveTheirSizes, NothingKeptIsMinusInfinity, PivotsSeparate, TruncationIsDetermined, TuplesAreToldApart};
 
 /// Rows with the same keys and INCLUDE values have the same plain images up to the row pointer, so
 /// that rows with equal keys may share a posting tuple.
@@ -27,4 +27,10 @@ pub fn truncation_is_determined()
 /// of the right.
 pub fn pivots_separate()
     ensures { PivotsSeparate }
+{}
+
+/// Bytes are the tuple of one item at most, so a row's tuple, a posting tuple and a pivot never
+/// have the same bytes.
+pub fn tuples_are_told_apart()
+    ensures { TuplesAreToldApart }
 {}

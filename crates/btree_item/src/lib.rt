@@ -24,25 +24,33 @@
 //! `plain`, `posting` and `pivot` give exactly the images of their definitions. `put_plain`,
 //! `put_posting` and `put_pivot` put them behind the bytes of a buffer that its owner clears and
 //! uses again; where no memory is left, the buffer is as before. `size_of` is the size of the plain
-//! tuple. `truncate` gives how many attributes a pivot keeps. Laws say that a pivot separates, that
-//! rows of equal values have equal images up to the row pointer, and that images have their sizes.
+//! tuple. `truncate` gives how many attributes a pivot keeps. `read_item` gives the one tuple that
+//! bytes are, and none exactly where they are the image of no tuple: it reads leniently, writes what
+//! it read again and compares, so that each byte counts. Laws say that a pivot separates, that rows
+//! of equal values have equal images up to the row pointer, that images have their sizes, and that
+//! bytes are one tuple at most.
 //!
 //! # What is not
 //!
-//! Tuples are written here and not read. Which rows share a posting tuple and where pages begin is
-//! the packer's.
+//! Which rows share a posting tuple and where pages begin is the packer's. `read_item` doesn't ask
+//! that a posting tuple is as small as the packer makes them, nor where a tuple stands.
 #![tactic(auto)]
 
+mod item;
+mod item_reading;
 mod laws;
 mod pivot_tuple;
 mod plain_tuple;
 mod posting_tuple;
 mod truncation;
 mod tuple;
+mod tuple_reading;
 
+pub use item::Item;
+pub use item_reading::read_item;
 pub use laws::{
     equal_values_have_equal_images, images_have_their_sizes, nothing_kept_is_minus_infinity,
-    pivots_separate, truncation_is_determined,
+    pivots_separate, truncation_is_determined, tuples_are_told_apart,
 };
 pub use pivot_tuple::{pivot, put_pivot};
 pub use plain_tuple::{plain, put_plain};

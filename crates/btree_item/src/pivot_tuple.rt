@@ -9,7 +9,7 @@ use std::alloc::{AllocError, Global};
 
 // The mark of a pivot with a row pointer in the offset part (`BT_PIVOT_HEAP_TID_ATTR` of
 // `nbtree.h`).
-const WITH_POINTER: u16 = 0x1000;
+pub(crate) const WITH_POINTER: u16 = 0x1000;
 
 // The bytes that a row pointer takes at the end, with two zeros before it.
 const TAIL: u16 = 8;
@@ -72,7 +72,7 @@ pub fn put_pivot(
 
 // Puts the pivot of these attributes, of which an error leaves a part.
 #[tactic(auto, unfolding(crate::specs::Pivot::image_of_attributes))]
-fn put_attributes(
+pub(crate) fn put_attributes(
     out: &mut Vec<u8>,
     kinds: &[ColType],
     keys: &[KeyVal],

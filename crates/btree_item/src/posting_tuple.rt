@@ -9,10 +9,10 @@ use pg_bytes::{Bytes, Items, RowPtr, al8};
 use std::alloc::{AllocError, Global};
 
 // The mark of a posting tuple in the offset part (`BT_IS_POSTING` of `nbtree.h`).
-const POSTING: u16 = 0x2000;
+pub(crate) const POSTING: u16 = 0x2000;
 
 // The bytes of a row pointer.
-const POINTER: usize = 6;
+pub(crate) const POINTER: usize = 6;
 
 /// The tuple of several rows with the same keys, whose row pointers ascend (`_bt_form_posting` of
 /// `nbtdedup.c`).
@@ -23,7 +23,7 @@ pub fn posting(
     ptrs: &[RowPtr],
 ) -> Result<Bytes, AllocError>
     requires few { length keys.now ≤ 32 }
-    requires size { posting_size kinds.now keys.now (length ptrs.now) ≤ 812 }
+    requires size { posting_size kinds.now keys.now (length ptrs.now) ≤ 2704 }
     ensures { IfOk result (λ bytes. bytes ≡ posting_image kinds.now keys.now ptrs.now) }
 {
     let mut out = Vec::new(alloc);
@@ -41,7 +41,7 @@ pub fn put_posting(
     ptrs: &[RowPtr],
 ) -> Result<(), AllocError>
     requires few { length keys.now ≤ 32 }
-    requires size { posting_size kinds.now keys.now (length ptrs.now) ≤ 812 }
+    requires size { posting_size kinds.now keys.now (length ptrs.now) ≤ 2704 }
     ensures ok { OnOk result
         (out.new.items ≡ out.old.items ++ posting_image kinds.now keys.now ptrs.now) }
     ensures err { OnErr result (out.new.items ≡ out.old.items) }
@@ -62,7 +62,7 @@ fn put_parts(
     ptrs: &[RowPtr],
 ) -> Result<(), AllocError>
     requires few { length keys.now ≤ 32 }
-    requires size { posting_size kinds.now keys.now (length ptrs.now) ≤ 812 }
+    requires size { posting_size kinds.now keys.now (length ptrs.now) ≤ 2704 }
     ensures ok { OnOk result
         (out.new.items ≡ out.old.items ++ posting_image kinds.now keys.now ptrs.now) }
     ensures err { OnErr result (take (length out.old.items) out.new.items ≡ out.old.items) }

@@ -12,9 +12,9 @@ use std::alloc::AllocError;
 use tuple_data::{data_size, has_null, has_variable, null_bits, put_data};
 
 // The bytes of the head, and where `t_info` stands in it.
-const HEAD: usize = 8;
+pub(crate) const HEAD: usize = 8;
 
-const T_INFO: usize = 6;
+pub(crate) const T_INFO: usize = 6;
 
 // The bytes of a null bitmap, with the zeros behind it.
 const BITMAP: u64 = 8;
@@ -23,9 +23,9 @@ const BITMAP: u64 = 8;
 // of variable width has a value, some value is null.
 pub(crate) const NO_ROW: u16 = 0x2000;
 
-const HAS_VARIABLE: u16 = 0x4000;
+pub(crate) const HAS_VARIABLE: u16 = 0x4000;
 
-const HAS_NULL: u16 = 0x8000;
+pub(crate) const HAS_NULL: u16 = 0x8000;
 
 /// The size in bytes of the plain tuple of a row: its keys and then its INCLUDE values.
 pub fn size_of(kinds: &Kinds, values: &KeyList) -> u64
