@@ -1,7 +1,7 @@
 -- Pivots (nbtree.h, BTreeTupleSetNAtts and its kin; _bt_truncate of nbtutils.c).
 use Rattle.std.specs.Prelude.{ℕ, ◌+◌, nat_le, if◌then◌else◌, Option, Some, None, List, [], ◌++◌, length, take}
 use Rattle.std.specs.declared.cmp.Ordering.{Ordering}
-use Rattle.std.specs.declared.cmp.Ordering.TheVariants.{Less}
+use Rattle.std.specs.Option.{option_cmp}
 use Rattle.std.specs.Ordering.{ordering_then}
 use Rattle.pg_bytes.specs.Numbers.{number_bytes}
 use Rattle.pg_bytes.specs.Places.{zeros}
@@ -49,15 +49,14 @@ pivot_image kinds keys kept last child = image_of_attributes (take kept kinds) (
 abbrev pub minus_infinity : ℕ → List ℕ
 minus_infinity child = row_pointer_bytes (record { block = child; offset = 0 }) ++ number_bytes 2 0x2008
 
--- a row pointer that isn't there is below every row's
-abbrev pub last_cmp : Option RowPtr → RowPtr → Ordering
-last_cmp None ptr = Less
-last_cmp (Some last) ptr = pointer_cmp last ptr
+-- The keys and row pointers of two pivots (_bt_compare of nbtsearch.c): an attribute that was cut off is below every
+-- value, so fewer attributes that are alike stand before more, and a row pointer that isn't there is below every other.
+abbrev pub pivots_cmp : List SortPart → List KeyVal × Option RowPtr → List KeyVal × Option RowPtr → Ordering
+pivots_cmp parts a b = ordering_then (key_cmp parts a.0 b.0) (option_cmp pointer_cmp a.1 b.1)
 
--- A pivot's keys and row pointer beside a row's (_bt_compare of nbtsearch.c): an attribute that was cut off is below
--- every value, so fewer attributes that are alike stand before more.
+-- those of a pivot beside a row's
 abbrev pub pivot_cmp : List SortPart → List KeyVal × Option RowPtr → List KeyVal × RowPtr → Ordering
-pivot_cmp parts pivot row = ordering_then (key_cmp parts pivot.0 row.0) (last_cmp pivot.1 row.1)
+pivot_cmp parts pivot row = pivots_cmp parts pivot (row.0, Some row.1)
 
 -- what a pivot keeps of a tuple: its first attributes, and where it keeps more than there are a row pointer too
 abbrev pub kept_of : List KeyVal → RowPtr → ℕ → List KeyVal × Option RowPtr

@@ -7,10 +7,10 @@ use Rattle.btree_pack.specs.Births.{Birth}
 use Rattle.btree_pack.specs.Break.{Item, breaks}
 use Rattle.btree_pack.specs.Leaves.{Content}
 use Rattle.btree_pack.specs.Nodes.{flags_on, tuples_on}
-use Rattle.btree_pack.specs.Page.{special_space}
+use Rattle.btree_page.specs.SpecialSpace.{special_space}
 use Rattle.btree_pack.specs.Pages.{Page}
 use Rattle.btree_pack.specs.Tower.{item_above}
-use Rattle.btree_pack.specs.Tuple.{minus_infinity}
+use Rattle.btree_item.specs.Pivot.{minus_infinity}
 use Rattle.btree_pack.specs.Pass.Emission.{number, prev_behind, state_of, states}
 use Rattle.btree_pack.specs.Pass.History.{born_by}
 use Rattle.btree_pack.specs.Pass.Open.{Open, broken_by, finished_by, joined_by, step}

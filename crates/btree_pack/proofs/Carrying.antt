@@ -13,10 +13,11 @@ use Rattle.btree_pack.specs.Births.{Birth, block_of}
 use Rattle.btree_pack.specs.Break.{Item, breaks, first_size, page_room, soft_limit, spare, taken}
 use Rattle.btree_pack.specs.Leaves.{Content}
 use Rattle.btree_pack.specs.Nodes.{block_on, child_block, first_tuple_on, flags_on, high_key_on, tuple_on, tuples_on}
-use Rattle.btree_pack.specs.Page.{special_space}
+use Rattle.btree_page.specs.SpecialSpace.{special_space}
 use Rattle.btree_pack.specs.Pages.{Page}
 use Rattle.btree_pack.specs.Tower.{item_above}
-use Rattle.btree_pack.specs.Tuple.{minus_infinity, with_child}
+use Rattle.btree_item.specs.Pivot.{minus_infinity}
+use Rattle.btree_pack.specs.Tuple.{with_child}
 use Rattle.btree_pack.specs.Pass.Emission.{full_node, made_by, number, prev_behind, state_of, states, with_nodes}
 use Rattle.btree_pack.specs.Pass.History.{born_by}
 use Rattle.btree_pack.specs.Pass.Open.{Open, broken_by, finished_by, joined_by, step}
@@ -54,7 +55,7 @@ with_child-again child other pivot =
     ∙ sym (with_child-bytes child pivot)
 
 minus_infinity-bytes : (child : ℕ) → minus_infinity child ≡ child_bytes child ++ (number_bytes 2 0 ++ number_bytes 2 8200)
-unfolding minus_infinity child_bytes row_pointer_bytes
+unfolding child_bytes row_pointer_bytes
 minus_infinity-bytes child =
     let a : List ℕ = number_bytes 2 (child / 2 ^ 16) in
     let b : List ℕ = number_bytes 2 (child % 2 ^ 16) in

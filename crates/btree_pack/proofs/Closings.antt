@@ -10,7 +10,7 @@ use Rattle.btree_pack.specs.Births.{Birth, block_of}
 use Rattle.btree_pack.specs.Break.{Item, breaks}
 use Rattle.btree_pack.specs.Leaves.{Content}
 use Rattle.btree_pack.specs.Nodes.{Node, block_on, flags_on, first_tuple_on, nodes_behind, nodes_from, root_from, tuple_on, tuples_on}
-use Rattle.btree_pack.specs.Page.{rightmost_page}
+use Rattle.btree_page.specs.Node.{rightmost_page}
 use Rattle.btree_pack.specs.Pages.{Page}
 use Rattle.btree_pack.specs.Tower.{item_above}
 use Rattle.btree_pack.specs.Pass.Emission.{full_node, last_node, made_by, made_closing, number, prev_behind, state_of, states, with_nodes}

@@ -17,7 +17,7 @@ use Rattle.btree_pack.specs.Leaves.{Content}
 use Rattle.btree_pack.specs.Nodes.{Node, bytes_at, file_of, meta_page_of, nodes_of}
 use Rattle.btree_pack.specs.Pages.{Page}
 use Rattle.btree_pack.specs.Tower.{ArriveInTurn, levels}
-use Rattle.btree_pack.proofs.MetaWrites.{length-meta_page}
+use Rattle.btree_page.proofs.MetaWrites.{length-meta_page}
 use Rattle.btree_pack.proofs.NodeBlocks.{nodes_have_the_blocks}
 use Rattle.btree_pack.proofs.NodePages.{nodes_are_pages}
 

@@ -14,7 +14,7 @@ use Rattle.btree_pack.specs.Break.{Item}
 use Rattle.btree_pack.specs.Laws.{IsFileOf, IsSmall, IsWritten}
 use Rattle.btree_pack.specs.Leaves.{Content}
 use Rattle.btree_pack.specs.Nodes.{Node, Root, file_of, meta_page_of, nodes_from, nodes_of, root_from}
-use Rattle.btree_pack.specs.Page.{meta_page}
+use Rattle.btree_page.specs.Meta.{meta_page}
 use Rattle.btree_pack.specs.Tower.{ArriveInTurn, levels}
 use Rattle.btree_pack.specs.Pass.Emission.{made_by, made_closing, made_from, with_nodes}
 use Rattle.btree_pack.specs.Pass.Finish.{ArePackable, BeginsAtMinusInfinity, last_separator}
@@ -27,7 +27,7 @@ use Rattle.btree_pack.proofs.Arrivals.{TopIsAlone, alone-step, arrived-on, packi
 use Rattle.btree_pack.proofs.Carrying.{AllTold, Follow, Told, ToldAll}
 use Rattle.btree_pack.proofs.Closings.{Ends, closed-on, follow-parts, nodes-closing, nodes-step, nodes_in, with_nodes-append}
 use Rattle.btree_pack.proofs.FileBlocks.{file_is_determined}
-use Rattle.btree_pack.proofs.MetaWrites.{length-meta_page}
+use Rattle.btree_page.proofs.MetaWrites.{length-meta_page}
 use Rattle.btree_pack.proofs.NodeBlocks.{nodes_have_the_blocks}
 use Rattle.btree_pack.proofs.NodePages.{nodes_are_pages}
 use Rattle.btree_pack.proofs.Numbers.{numbered_in_turn}

@@ -1,5 +1,4 @@
 pub mod Lengths
-pub mod MetaWrites
 pub mod Worked
 pub mod WorkedKeys
 pub mod Cutting

@@ -17,16 +17,17 @@ use Rattle.btree_pack.specs.Groups.{Row, Group, leaf_groups}
 use Rattle.btree_pack.specs.Leaves.{Content, Images, plain_of, tuple_of_group, pivot_between, leaf_items_behind, leaf_items}
 use Rattle.btree_pack.specs.Separators.{separator}
 use Rattle.btree_pack.specs.Nodes.{Node, child_block, tuple_on, first_tuple_on, tuples_on, high_key_on, flags_on, block_on, nodes_behind, nodes_from, nodes_of}
-use Rattle.btree_pack.specs.Page.{special_space}
+use Rattle.btree_page.specs.SpecialSpace.{special_space}
 use Rattle.btree_pack.specs.Pages.{Page, items_of}
 use Rattle.btree_pack.specs.Tower.{item_above, levels}
-use Rattle.btree_pack.specs.Tuple.{minus_infinity, with_child}
+use Rattle.btree_item.specs.Pivot.{minus_infinity}
+use Rattle.btree_pack.specs.Tuple.{with_child}
 use Rattle.btree_pack.proofs.Contents.{levels_begin, levels_name}
-use Rattle.btree_pack.proofs.Lengths.{length-row_pointer_bytes, length-special_space}
+use Rattle.btree_pack.proofs.Lengths.{length-row_pointer_bytes}
+use Rattle.btree_page.proofs.MetaWrites.{length-special_space}
 use Rattle.btree_pack.proofs.Room.{pages_fit}
 
 length-minus_infinity : (child : ℕ) → length (minus_infinity child) ≡ 8
-unfolding minus_infinity
 length-minus_infinity child =
     let whole = length-append (row_pointer_bytes (record { block = child; offset = 0 })) (number_bytes 2 0x2008) in
     let pointer = length-row_pointer_bytes (record { block = child; offset = 0 }) in

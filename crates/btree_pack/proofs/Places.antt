@@ -5,7 +5,7 @@ use Rattle.std.specs.Prelude.{Option, Some, slice_get, IfSome, ◌==◌, true, f
 use Rattle.std.proofs.lemmas.Bool.Decides.{nat_tests}
 use Rattle.pg_bytes.specs.Image.{placed}
 use Rattle.btree_pack.specs.Pass.Packing.{Carried, Closed, PageState, Packing, added, carried, closed, finished_bytes, first_page, is_full, last_bytes, next_page, pivot_of, turned, with_carried, with_tuple}
-use Rattle.btree_pack.specs.Tuple.{minus_infinity}
+use Rattle.btree_item.specs.Pivot.{minus_infinity}
 use Rattle.btree_pack.proofs.Carrying.{carried-begins, carried-joins, carried-breaks}
 use Rattle.btree_pack.proofs.Closings.{closed-root, closed-more}
 

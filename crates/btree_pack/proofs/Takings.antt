@@ -18,7 +18,7 @@ use Rattle.btree_pack.specs.Groups.{Row, Group, have_same_keys, leaf_groups, mos
 use Rattle.btree_pack.specs.Images.{images_of}
 use Rattle.btree_pack.specs.Leaves.{Images, pivot_between, plain_of, tuple_of_group}
 use Rattle.btree_pack.specs.Separators.{Separator, greatest_pointer, is_same_value, separator}
-use Rattle.btree_pack.specs.Tuple.{minus_infinity}
+use Rattle.btree_item.specs.Pivot.{minus_infinity}
 use Rattle.btree_pack.specs.Pass.Grouped.{HasRoom, IsGroupOf, group_image, separator_image}
 use Rattle.btree_pack.specs.Pass.Rows.{alone, grown, with_last}
 use Rattle.btree_pack.specs.Pass.Taken.{HasBegun, HasGrouped, IsOfOneIndex, IsPending, IsReady, IsRowOf, Tells, last_group}
@@ -31,7 +31,6 @@ use Rattle.btree_pack.proofs.TupleImages.{kept-beyond, kept-within, prefix-alike
 
 pub separator-none : (kinds : List ColType) (keys : ℕ) (values : List KeyVal) (size : ℕ)
     → separator_image kinds keys (record { values = values; size = size; kept = 0; pointer = None }) ≡ minus_infinity 0
-unfolding minus_infinity
 separator-none kinds keys values size = minus_infinity-image (take keys kinds) (take keys values) 0
 
 one-group : (size_of : Row → ℕ) (shares : Bool) (row : Row) → leaf_groups size_of shares (row ∷ []) ≡ alone row ∷ []

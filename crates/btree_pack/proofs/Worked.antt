@@ -12,9 +12,12 @@ use Rattle.opclass.specs.declared.value.KeyVal.{KeyVal}
 use Rattle.opclass.specs.declared.value.KeyVal.TheVariants.{Num}
 use Rattle.btree_pack.specs.Leaves.{Images, leaf_items}
 use Rattle.btree_pack.specs.Nodes.{file_of, meta_page_of, nodes_of}
-use Rattle.btree_pack.specs.Page.{meta_page, rightmost_page, special_space}
+use Rattle.btree_page.specs.Meta.{meta_page}
+use Rattle.btree_page.specs.Node.{rightmost_page}
+use Rattle.btree_page.specs.SpecialSpace.{special_bytes}
 use Rattle.btree_pack.specs.Separators.{separator}
-use Rattle.btree_pack.specs.Tuple.{minus_infinity, with_child}
+use Rattle.btree_item.specs.Pivot.{minus_infinity}
+use Rattle.btree_pack.specs.Tuple.{with_child}
 use Rattle.btree_pack.specs.Births.{Birth, births_of, block_of}
 use Rattle.btree_pack.specs.Break.{Item}
 use Rattle.btree_pack.specs.Groups.{Row, Group, rows_of, most_sharing, pieces, leaf_groups}
@@ -124,7 +127,7 @@ none_differs = refl
 
 -- the root's two tuples, over leaves at the blocks 1 and 2 of which the right one begins with the key 367
 leftmost_child : minus_infinity 1 ≡ 0 ∷ 0 ∷ 1 ∷ 0 ∷ 0 ∷ 0 ∷ 0x08 ∷ 0x20 ∷ []
-unfolding minus_infinity row_pointer_bytes number_bytes
+unfolding row_pointer_bytes number_bytes
 leftmost_child = refl
 
 right_child : with_child 2 (0 ∷ 0 ∷ 0 ∷ 0 ∷ 1 ∷ 0 ∷ 0x10 ∷ 0x20 ∷ 0x6f ∷ 1 ∷ 0 ∷ 0 ∷ 0 ∷ 0 ∷ 0 ∷ 0 ∷ [])
@@ -157,7 +160,7 @@ three_rows : file_of true (levels 90 (leaf_items int4_images true
     ≡ meta_page 1 0 true ++ rightmost_page 0 0 3 (int4_tuple (record { block = 0; offset = 2 }) (pos 10)
     ∷ int4_tuple (record { block = 0; offset = 3 }) (pos 20)
     ∷ int4_tuple (record { block = 0; offset = 1 }) (pos 30) ∷ [])
-unfolding int4_tuple int4_images file_of meta_page_of levels cut leaf_items most_sharing pieces nodes_of block_of row_pointer_bytes number_bytes zeros aligned item_page page_header special_space
+unfolding int4_tuple int4_images file_of meta_page_of levels cut leaf_items most_sharing pieces nodes_of block_of row_pointer_bytes number_bytes zeros aligned item_page page_header special_bytes
 three_rows = refl
 
 -- and without rows it is the meta page

@@ -3,7 +3,7 @@
 use Rattle.std.specs.Prelude.{ℕ, zero, suc, ◌+◌, ◌-◌, ◌*◌, ◌/◌, Bool, nat_lt, ◌||◌, List, [], ◌∷◌, ◌++◌}
 use Rattle.std.specs.List.{sum_by}
 use Rattle.pg_bytes.specs.PageLayout.{page_size, header_size, line_pointer_size}
-use Rattle.btree_pack.specs.Page.{special_start}
+use Rattle.btree_page.specs.SpecialSpace.{special_start}
 
 -- An item of a level: what it has to say, its size on a page, and how much of that is its list of row pointers; the
 -- size of the separator by which the level above tells a page that begins with it; the moment at which it arrives; and

@@ -4,26 +4,23 @@ use Rattle.std.specs.Prelude.{◌≡◌, ◌≢◌, ℕ, zero, suc, ◌+◌, Boo
 use Rattle.std.specs.List.{flat_map}
 use Rattle.std.specs.List.Sorted.{IsStrictlySortedBy}
 use Rattle.std.specs.Option.{option_cmp, option_map}
-use Rattle.std.specs.Ordering.{ordering_then}
 use Rattle.std.specs.declared.cmp.Ordering.{Ordering}
 use Rattle.std.specs.declared.cmp.Ordering.TheVariants.{Less}
-use Rattle.opclass.specs.Order.{key_cmp, pointer_cmp, row_cmp}
+use Rattle.opclass.specs.Order.{row_cmp}
 use Rattle.opclass.specs.declared.spec.SortPart.{SortPart}
-use Rattle.btree_item.specs.Pivot.{pivot_cmp}
+use Rattle.btree_item.specs.Pivot.{minus_infinity, pivot_cmp, pivots_cmp}
 use Rattle.btree_pack.specs.Break.{Item}
 use Rattle.btree_pack.specs.Groups.{Row, Group, rows_of, leaf_groups}
 use Rattle.btree_pack.specs.Leaves.{Content, Images, leaf_item, leaf_items, plain_of, tuple_of_group}
 use Rattle.btree_pack.specs.Pages.{Page, items_of}
 use Rattle.btree_pack.specs.Separators.{Separator, separator}
 use Rattle.btree_pack.specs.Tower.{levels}
-use Rattle.btree_pack.specs.Tuple.{minus_infinity}
 
 -- ---- the order of keys
 
--- Two separators (_bt_compare of nbtsearch.c): the first column in which they differ decides, and one that was cut off
--- is below every value; then the row pointer, and one that isn't there is below every other.
+-- two separators stand to each other as pivots do
 abbrev pub separator_cmp : List SortPart → Separator → Separator → Ordering
-separator_cmp parts a b = ordering_then (key_cmp parts a.keys b.keys) (option_cmp pointer_cmp a.pointer b.pointer)
+separator_cmp parts a b = pivots_cmp parts (a.keys, a.pointer) (b.keys, b.pointer)
 
 -- a key of a page: none is minus infinity
 abbrev pub PageKey : Type 0

@@ -12,7 +12,7 @@ use Rattle.btree_pack.specs.Break.{Item, minus_infinity_size, taken}
 use Rattle.btree_pack.specs.Groups.{Row, rows_of, leaf_groups}
 use Rattle.btree_pack.specs.Leaves.{Content, Images, leaf_items, plain_of, tuple_of_group}
 use Rattle.btree_pack.specs.Nodes.{file_of, meta_page_of, nodes_of}
-use Rattle.btree_pack.specs.Page.{special_start}
+use Rattle.btree_page.specs.SpecialSpace.{special_start}
 use Rattle.btree_pack.specs.Pages.{Page, items_of}
 use Rattle.btree_pack.specs.Separators.{Separator}
 use Rattle.btree_pack.specs.Tower.{ArriveInTurn, item_above, levels}

@@ -5,7 +5,7 @@ use Rattle.opclass.specs.declared.value.KeyVal.{KeyVal}
 use Rattle.btree_pack.specs.Break.{Item}
 use Rattle.btree_pack.specs.Groups.{Row, Group, rows_of, leaf_groups}
 use Rattle.btree_pack.specs.Separators.{Separator, separator}
-use Rattle.btree_pack.specs.Tuple.{minus_infinity}
+use Rattle.btree_item.specs.Pivot.{minus_infinity}
 
 -- how tuples are written: of one row from its values and row pointer, of several rows with a list, and a separator's
 -- pivot tuple, whose child is 0

@@ -2,8 +2,6 @@
 
 -- index tuples
 pub mod Tuple
--- pages: the special space, the rightmost page of a level, the meta page
-pub mod Page
 -- the end of a list
 pub mod Ends
 -- where a page ends

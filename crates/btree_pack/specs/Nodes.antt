@@ -2,16 +2,19 @@
 -- nbtsort.c).
 use Rattle.std.specs.Prelude.{ℕ, zero, suc, ◌+◌, Bool, true, false, if◌then◌else◌, not, ◌&&◌, nat_eq, List, [], ◌∷◌, ◌++◌, length, map, filter}
 use Rattle.std.specs.List.{flat_map, range_with_len}
-use Rattle.pg_bytes.specs.ItemPage.{first_lowest_page}
 use Rattle.opclass.specs.declared.spec.IndexSpec.{IndexSpec}
 use Rattle.btree_pack.specs.Births.{Birth, births_of, block_of}
 use Rattle.btree_pack.specs.Break.{Item}
 use Rattle.btree_pack.specs.Groups.{Row}
 use Rattle.btree_pack.specs.Leaves.{Content, Images, leaf_items}
-use Rattle.btree_pack.specs.Page.{is_leaf, is_root, meta_page, rightmost_page, special_space}
+use Rattle.btree_page.specs.Meta.{meta_page}
+use Rattle.btree_page.specs.Node.{bounded_page, rightmost_page}
+use Rattle.btree_page.specs.SpecialSpace.{flag_bit}
+use Rattle.btree_page.specs.declared.special.PageFlag.TheVariants.{Leaf, Root as RootFlag}
 use Rattle.btree_pack.specs.Pages.{Page}
 use Rattle.btree_pack.specs.Tower.{levels}
-use Rattle.btree_pack.specs.Tuple.{minus_infinity, with_child}
+use Rattle.btree_item.specs.Pivot.{minus_infinity}
+use Rattle.btree_pack.specs.Tuple.{with_child}
 
 -- the block of a page of a level, among all births
 abbrev pub block_on : List Birth → ℕ → Page Content → ℕ
@@ -42,8 +45,8 @@ high_key_on births (suc below) item = tuple_on births (suc below) item
 
 -- the flags of the pages of a level
 abbrev pub flags_on : ℕ → Bool → ℕ
-flags_on zero root = is_leaf + (if root then is_root else 0)
-flags_on (suc below) root = if root then is_root else 0
+flags_on zero root = flag_bit Leaf + (if root then flag_bit RootFlag else 0)
+flags_on (suc below) root = if root then flag_bit RootFlag else 0
 
 -- a page of the file, at its block
 pub record Node : Type 0 where
@@ -61,7 +64,7 @@ nodes_behind births level root prev (page ∷ []) =
 nodes_behind births level root prev (page ∷ next ∷ others) =
     record {
       block = block_on births level page;
-      bytes = first_lowest_page (special_space prev (block_on births level next) level (flags_on level root))
+      bytes = bounded_page prev (block_on births level next) level (flags_on level root)
           (high_key_on births level next.first) (tuples_on births level page);
     } ∷ nodes_behind births level root (block_on births level page) (next ∷ others)
 

@@ -102,7 +102,6 @@ mod laws;
 mod leaf_run;
 mod leaf_writer;
 mod leaves;
-mod meta;
 mod open_leaves;
 mod open_page;
 mod open_tower;
@@ -111,7 +110,6 @@ mod page_fill;
 mod row_group;
 mod run_leaves;
 mod run_packer;
-mod special;
 mod tuples;
 
 pub use key_bounds::{

@@ -9,8 +9,8 @@ ghost use Rattle.btree_pack.specs.Tuple.{with_child};
 
 use crate::leaves::{LeafSize, Leaves};
 use crate::page_fill::{PageFill, SPARE};
-use crate::special::{LEAF, ROOT, SpecialSpace};
 use crate::tuples::Tuples;
+use btree_page::{PageFlag, SpecialSpace};
 use byteorder::{ByteOrder, LittleEndian};
 use pg_bytes::{LINE_POINTER, PageBuf};
 use std::alloc::{AllocError, Global};
@@ -234,15 +234,21 @@ impl OpenPage {
           next = next;
           level = self.now.level;
           flags = flags_on self.now.level root;
+          cycle = 0;
         } }
     {
-        let leaf = if self.level == 0 { LEAF } else { 0 };
-        let top = if root { ROOT } else { 0 };
+        let leaf = if self.level == 0 {
+            PageFlag::Leaf.bit()
+        } else {
+            0
+        };
+        let top = if root { PageFlag::Root.bit() } else { 0 };
         SpecialSpace {
             prev: self.prev,
             next,
             level: self.level,
             flags: leaf + top,
+            cycle: 0,
         }
     }
 

@@ -8,11 +8,11 @@ ghost use Rattle.btree_pack.specs.Pass.Packed.{packed, tuple_came};
 ghost use Rattle.btree_pack.specs.Pass.Packing.{IsHighKey, IsTuple, added, breaks_leaf, carried, closed, finished_bytes, first_page, high_key_room, last_bytes, leaf_taken, next_page, pivot_of, turned, used, with_carried, with_tuple};
 ghost use Rattle.btree_pack.specs.Pass.Run.{IsLeaf};
 ghost use Rattle.btree_pack.specs.Pass.Sight.{Closes, IsFinished, KeepsAllButPages, fillfactor_of, packing_of};
-ghost use Rattle.btree_pack.specs.Tuple.{minus_infinity};
+ghost use Rattle.btree_item.specs.Pivot.{minus_infinity};
 
 use crate::leaves::{LeafPlace, Leaves};
-use crate::meta::MetaPage;
 use crate::open_page::OpenPage;
+use btree_page::MetaPage;
 use pg_bytes::IndexImage;
 use std::alloc::{AllocError, Global};
 
@@ -382,12 +382,7 @@ impl OpenTower {
             IsFileOfThePacked (fillfactor_of self) equal_images (packing_of self) file) }
     {
         let (root, level) = self.close_all()?;
-        let meta = MetaPage {
-            root,
-            level,
-            equal_images,
-        };
-        let page = meta.page(self.alloc)?;
+        let page = MetaPage::built(root, level, equal_images).page(self.alloc)?;
         self.image.place(0, &page)?;
         let OpenTower { image, .. } = self;
         Ok(image)

@@ -1,11 +1,11 @@
 ghost use Rattle.std.specs.Prelude.{◌≡◌, ◌↔◌, [], ◌∷◌, ◌++◌, ◌+◌, ◌*◌, ◌<◌, ◌≤◌, ◌^◌, All, IfOk, IsTrue, OnErr, OnOk, length, map, vec_capacity, vec_len};
-ghost use Rattle.btree_pack.specs.Page.{special_space};
+ghost use Rattle.btree_page.specs.SpecialSpace.{special_bytes};
 ghost use Rattle.btree_pack.specs.Pass.Begun.{begun_page};
 ghost use Rattle.btree_pack.specs.Pass.Buffer.{tuples_cut, tuples_size};
 ghost use Rattle.btree_pack.specs.Pass.Packing.{IsTuple, room_of};
 
 use crate::leaves::LeafSize;
-use crate::special::{SPECIAL_BYTES, SPECIAL_PLACE, SpecialSpace};
+use btree_page::{SPECIAL_BYTES, SpecialSpace};
 use pg_bytes::{LINE_POINTER, PAGE_HEADER, PD_LOWER, PageBuf};
 use std::alloc::{AllocError, Global};
 use std::marker::Model;
@@ -111,8 +111,7 @@ impl Tuples {
         requires tuples { All IsTuple self.now }
         requires room { 4 * reserved + room_of self.now ≤ 8152 }
         ensures { IfOk result (λ page.
-            page ≡ begun_page (special_space special.now.prev special.now.next special.now.level
-            special.now.flags) reserved self.now) }
+            page ≡ begun_page (special_bytes special.now) reserved self.now) }
     {
         let mut page = begun(alloc, special, reserved)?;
         let mut place = 0usize;
@@ -139,12 +138,10 @@ fn push_sizes(all: &mut Vec<u16>, sizes: &[LeafSize])
 // `nbtsort.c`).
 fn begun(alloc: Global, special: &SpecialSpace, reserved: u16) -> Result<PageBuf, AllocError>
     requires { reserved ≤ 1 }
-    ensures { IfOk result (λ page.
-        page ≡ begun_page (special_space special.now.prev special.now.next special.now.level
-        special.now.flags) reserved []) }
+    ensures { IfOk result (λ page. page ≡ begun_page (special_bytes special.now) reserved []) }
 {
     let mut page = PageBuf::new(alloc, SPECIAL_BYTES as u16)?;
-    page.put_slice(SPECIAL_PLACE, &special.bytes());
+    special.put(&mut page);
     page.put_u16(
         PD_LOWER,
         PAGE_HEADER as u16 + LINE_POINTER as u16 * reserved,

@@ -1,12 +1,11 @@
 -- The nodes of a tower in the order in which the pass finishes its pages.
 use Rattle.std.specs.Prelude.{ℕ, zero, suc, Bool, true, false, List, [], ◌∷◌, ◌++◌, map, Some, None}
 use Rattle.pg_bytes.specs.Image.{placed}
-use Rattle.pg_bytes.specs.ItemPage.{first_lowest_page}
 use Rattle.btree_pack.specs.Births.{Birth, block_of}
 use Rattle.btree_pack.specs.Break.{Item}
 use Rattle.btree_pack.specs.Leaves.{Content}
 use Rattle.btree_pack.specs.Nodes.{Node, block_on, first_tuple_on, flags_on, high_key_on, tuple_on, tuples_on}
-use Rattle.btree_pack.specs.Page.{rightmost_page, special_space}
+use Rattle.btree_page.specs.Node.{bounded_page, rightmost_page}
 use Rattle.btree_pack.specs.Pages.{Page}
 use Rattle.btree_pack.specs.Tower.{item_above}
 use Rattle.btree_pack.specs.Pass.Open.{Open, finished_by, last_page, step}
@@ -57,7 +56,7 @@ states births level (o ∷ above) = state_of births level o ∷ states births (s
 abbrev pub full_node : List Birth → ℕ → ℕ → Page Content → ℕ → Item Content → Node
 full_node births level prev page next item = record {
   block = block_on births level page;
-  bytes = first_lowest_page (special_space prev next level (flags_on level false)) (high_key_on births level item)
+  bytes = bounded_page prev next level (flags_on level false) (high_key_on births level item)
       (tuples_on births level page);
 }
 

@@ -5,7 +5,7 @@ use Rattle.btree_pack.specs.Laws.{IsSmall, IsWritten}
 use Rattle.btree_pack.specs.Leaves.{Content}
 use Rattle.btree_pack.specs.Nodes.{file_of}
 use Rattle.btree_pack.specs.Tower.{ArriveInTurn, levels}
-use Rattle.btree_pack.specs.Tuple.{minus_infinity}
+use Rattle.btree_item.specs.Pivot.{minus_infinity}
 use Rattle.btree_pack.specs.Pass.Packed.{arrived, packed}
 use Rattle.btree_pack.specs.Pass.Packing.{Packing}
 use Rattle.btree_pack.specs.Pass.Sight.{IsFinished}

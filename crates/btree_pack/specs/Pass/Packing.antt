@@ -3,13 +3,13 @@
 use Rattle.std.specs.Prelude.{◌≡◌, ℕ, zero, suc, ◌+◌, ◌%◌, ◌<◌, ◌≤◌, ◌^◌, Bool, true, false, nat_lt, ◌||◌, if◌then◌else◌, List, [], ◌∷◌, ◌++◌, length, take, All, Option, Some, None}
 use Rattle.std.specs.List.{sum_by}
 use Rattle.pg_bytes.specs.Image.{placed}
-use Rattle.pg_bytes.specs.ItemPage.{first_lowest_page}
 use Rattle.pg_bytes.specs.Numbers.{number_bytes}
 use Rattle.pg_bytes.specs.PageLayout.{line_pointer_size, page_size}
 use Rattle.btree_pack.specs.Break.{page_room, soft_limit, spare, minus_infinity_size}
 use Rattle.btree_pack.specs.Nodes.{Root, flags_on}
-use Rattle.btree_pack.specs.Page.{rightmost_page, special_space}
-use Rattle.btree_pack.specs.Tuple.{minus_infinity, with_child}
+use Rattle.btree_page.specs.Node.{bounded_page, rightmost_page}
+use Rattle.btree_item.specs.Pivot.{minus_infinity}
+use Rattle.btree_pack.specs.Tuple.{with_child}
 
 -- The open page of a level: its block and its left neighbour's, 0 for none; its low key, which is its left neighbour's
 -- high key (btps_lowkey); its tuples, the last apart, which may yet begin the next page; and how much of the last is its
@@ -88,7 +88,7 @@ next_page block high_key page = record {
 -- the bytes of a page that is finished with a high key
 abbrev pub finished_bytes : ℕ → List ℕ → PageState → List ℕ
 finished_bytes next high_key page =
-    first_lowest_page (special_space page.prev next page.level (flags_on page.level false)) high_key page.before
+    bounded_page page.prev next page.level (flags_on page.level false) high_key page.before
 
 -- those of the last page of a level
 abbrev pub last_bytes : Bool → PageState → List ℕ

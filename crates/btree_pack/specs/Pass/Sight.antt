@@ -2,7 +2,7 @@
 use Rattle.std.specs.Prelude.{◌≡◌, ℕ, Bool, List, [], ◌∷◌, Some}
 use Rattle.pg_bytes.specs.Image.{placed}
 use Rattle.btree_pack.specs.Nodes.{Root}
-use Rattle.btree_pack.specs.Page.{meta_page}
+use Rattle.btree_page.specs.Meta.{meta_page}
 use Rattle.btree_pack.specs.Pass.Packing.{Packing, closed}
 use Rattle.btree_pack.specs.declared.open_tower.OpenTower.{OpenTower}
 

@@ -1,6 +1,6 @@
 use Rattle.std.proofs.Common.{◌≡◌, suc, ◌∷◌, [], length, ap, ◌∙◌, arith}
 use Rattle.btree_pack.specs.Pass.Packing.{first_page}
-use Rattle.btree_pack.specs.Tuple.{minus_infinity}
+use Rattle.btree_item.specs.Pivot.{minus_infinity}
 use Rattle.btree_pack.proofs.Places.{add-begins, add-joins, at-got, kept, kept-same, none-there, some-at, some-there}
 use Rattle.btree_pack.proofs.open_tower.OpenTower.add.Goals as goal
 

@@ -1,5 +1,6 @@
 use Rattle.std.proofs.Common.{ap, ◌∙◌, subst}
 use Rattle.pg_bytes.specs.Image.{placed}
+use Rattle.btree_page.specs.Meta.{page_of_meta}
 use Rattle.btree_pack.specs.Pass.Packing.{Packing}
 use Rattle.btree_pack.specs.Pass.Sight.{IsFinished}
 use Rattle.btree_pack.proofs.Finishing.{finished_packing_is_the_file}
@@ -12,7 +13,7 @@ returns-clause-finished c = (
     c.close_all.new.self.image,
     (
       c.in_ok-root.ensures.root,
-      c.in_ok-place.ensures.ok ∙ ap (λ p. placed 0 p c.close_all.new.self.image) c.in_ok-page.ensures,
+      c.in_ok-place.ensures.ok ∙ ap (λ p. placed 0 p c.close_all.new.self.image) (c.in_ok-page.ensures ∙ ap page_of_meta c.built.ensures),
     ),
   ),
 )
@@ -27,7 +28,7 @@ returns-clause-file c =
         c.close_all.new.self.image,
         (
           c.in_ok-root.ensures.root,
-          c.in_ok-place.ensures.ok ∙ ap (λ p. placed 0 p c.close_all.new.self.image) c.in_ok-page.ensures,
+          c.in_ok-place.ensures.ok ∙ ap (λ p. placed 0 p c.close_all.new.self.image) (c.in_ok-page.ensures ∙ ap page_of_meta c.built.ensures),
         ),
       ),
     ))

@@ -1,4 +1,4 @@
--- The writes of the meta page, over a page without items.
+-- The writes of the meta page, over a page without items, and how many bytes its parts have.
 use Rattle.std.proofs.Common.{◌≡◌, ℕ, Bool, List, [], ◌++◌, length, refl, sym, ap, ◌∙◌, arith, length-append}
 use Rattle.std.proofs.lemmas.List.{append_assoc, append-nil}
 use Rattle.pg_bytes.proofs.ItemPage.{length-page_header, written-lower}
@@ -6,20 +6,29 @@ use Rattle.pg_bytes.proofs.Writes.{length-number_bytes, length-zeros, written-mi
 use Rattle.pg_bytes.specs.Numbers.{number_bytes}
 use Rattle.pg_bytes.specs.PageLayout.{empty_page, page_header}
 use Rattle.pg_bytes.specs.Places.{written, zeros}
-use Rattle.btree_pack.proofs.Lengths.{length-special_space}
-use Rattle.btree_pack.specs.Page.{is_meta, meta_fields, meta_page, special_space}
+use Rattle.btree_page.specs.declared.meta.MetaPage.{MetaPage}
+use Rattle.btree_page.specs.declared.special.SpecialSpace.{SpecialSpace}
+use Rattle.btree_page.specs.Meta.{meta_fields, meta_page, page_of_meta}
+use Rattle.btree_page.specs.SpecialSpace.{special_bytes, special_space}
 
-pub length-meta_fields : (root level : ℕ) (equal : Bool) → length (meta_fields root level equal) ≡ 48
+pub length-special_bytes : (space : SpecialSpace) → length (special_bytes space) ≡ 16
+unfolding special_bytes
+length-special_bytes space = simp (length-append, length-number_bytes) refl
+
+pub length-special_space : (prev next level flags : ℕ) → length (special_space prev next level flags) ≡ 16
+length-special_space prev next level flags = length-special_bytes _
+
+pub length-meta_fields : (meta : MetaPage) → length (meta_fields meta) ≡ 48
 unfolding meta_fields
-length-meta_fields root level equal = simp (length-append, length-number_bytes, length-zeros) refl
+length-meta_fields meta = simp (length-append, length-number_bytes, length-zeros) refl
 
-pub written-meta_page : (root level : ℕ) (equal : Bool) (fields special : List ℕ) → fields ≡ meta_fields root level equal → special ≡ special_space 0 0 0 is_meta
-    → written special 8176 (written fields 24 (written (number_bytes 2 72) 12 (empty_page 16))) ≡ meta_page root level equal
-unfolding empty_page meta_page
-written-meta_page root level equal fields special are_fields is_special =
+pub written-page_of_meta : (meta : MetaPage) (fields special : List ℕ) → fields ≡ meta_fields meta → special ≡ special_space 0 0 0 8
+    → written special 8176 (written fields 24 (written (number_bytes 2 72) 12 (empty_page 16))) ≡ page_of_meta meta
+unfolding empty_page page_of_meta
+written-page_of_meta meta fields special are_fields is_special =
     let header : List ℕ = page_header 72 8176 8176 in
-    let fields_end : length fields ≡ 48 = ap length are_fields ∙ length-meta_fields root level equal in
-    let special_end : length special ≡ 16 = ap length is_special ∙ length-special_space 0 0 0 is_meta in
+    let fields_end : length fields ≡ 48 = ap length are_fields ∙ length-meta_fields meta in
+    let special_end : length special ≡ 16 = ap length is_special ∙ length-special_bytes _ in
     let header_end : length header ≡ 24 = length-page_header 72 8176 8176 in
     let front : List ℕ = header ++ (fields ++ zeros 8104) in
     let front_end : length front ≡ 8176 =
@@ -37,6 +46,9 @@ written-meta_page root level equal fields special are_fields is_special =
     ∙ written-middle special front (zeros 16) [] 8176 front_end (special_end ∙ sym (length-zeros 16))
     ∙ simp (append_assoc, append-nil, are_fields, is_special) refl
 
+pub length-page_of_meta : (meta : MetaPage) → length (page_of_meta meta) ≡ 8192
+unfolding page_of_meta
+length-page_of_meta meta = simp (length-append, length-page_header, length-meta_fields, length-zeros, length-special_bytes) refl
+
 pub length-meta_page : (root level : ℕ) (equal : Bool) → length (meta_page root level equal) ≡ 8192
-unfolding meta_page
-length-meta_page root level equal = simp (length-append, length-page_header, length-meta_fields, length-zeros, length-special_space) refl
+length-meta_page root level equal = length-page_of_meta _
