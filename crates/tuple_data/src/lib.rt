@@ -19,10 +19,12 @@
 //! before. `has_null`, `has_variable` and `null_bits` answer what a tuple's header says of its
 //! values.
 //!
-//! `read_data` is the way back: of types and null bits it gives the one list of values whose data
-//! the bytes begin with, and None exactly where there is no such list. So a byte between values
-//! that isn't zero, or a long header where a short one has room, is refused. That there is at most
-//! one such list is `values_are_told_apart`.
+//! `Values` is the way back: of types and null bits it gives the one list of values whose data the
+//! bytes begin with, and None exactly where there is no such list. So a byte between values that
+//! isn't zero, or a long header where a short one has room, is refused. That there is at most one
+//! such list is `values_are_told_apart`. The values stay where they stand, as attributes that are
+//! taken one after the other, without memory; contracts see them as the list. `read_data` is a copy
+//! of them.
 //!
 //! # What is not
 //!
@@ -39,6 +41,7 @@ mod nulls;
 mod number;
 mod piece;
 mod reading;
+mod values;
 
 pub use attribute::Attribute;
 pub use data::{data_size, put_data};
@@ -48,3 +51,4 @@ pub use laws::{
 };
 pub use nulls::{has_null, has_variable, null_bits};
 pub use reading::read_data;
+pub use values::Values;
