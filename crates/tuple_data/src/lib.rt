@@ -26,6 +26,8 @@
 //! taken one after the other, without memory; contracts see them as the list. `read_data` is a copy
 //! of them.
 //!
+//! `cmp_values` compares the values of two tuples in place, in the order of `opclass::cmp_key`.
+//!
 //! # What is not
 //!
 //! The tuple around the data, with its header, bitmap and size, is the business of the crates
@@ -39,6 +41,7 @@ mod datum;
 mod laws;
 mod nulls;
 mod number;
+mod order;
 mod piece;
 mod reading;
 mod values;
@@ -50,5 +53,6 @@ pub use laws::{
     values_are_told_apart,
 };
 pub use nulls::{has_null, has_variable, null_bits};
+pub use order::{cmp_attribute, cmp_values};
 pub use reading::read_data;
 pub use values::Values;
