@@ -19,3 +19,6 @@ pub mod ReadContent
 pub mod ReadVariable
 pub mod ReadPiece
 pub mod ReadList
+-- the values where they stand
+pub mod Fetched
+pub mod InPlaceLemmas

@@ -47,7 +47,7 @@ low_are_bytes : (i width x : ℕ) → AreBytes (bytes_low_first i width x)
 low_are_bytes i zero x = All-nil (λ byte. byte < 256)
 low_are_bytes i (suc width) x = All-cons (λ byte. byte < 256) _ _ (byte_below i x) (low_are_bytes (suc i) width x)
 
-are_number_bytes : (width x : ℕ) → AreBytes (number_bytes width x)
+pub are_number_bytes : (width x : ℕ) → AreBytes (number_bytes width x)
 unfolding number_bytes
 are_number_bytes width x = low_are_bytes 0 width x
 

@@ -6,5 +6,9 @@ pub mod Data
 pub mod Nulls
 -- the values that bytes are the data of
 pub mod Reading
+-- a value where it stands
+pub mod Fetch
+-- the values of a tuple where they stand
+pub mod InPlace
 -- what holds of all these
 pub mod Laws

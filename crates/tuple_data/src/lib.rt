@@ -19,10 +19,14 @@
 //! before. `has_null`, `has_variable` and `null_bits` answer what a tuple's header says of its
 //! values.
 //!
-//! `read_data` is the way back: of types and null bits it gives the one list of values whose data
-//! the bytes begin with, and None exactly where there is no such list. So a byte between values
-//! that isn't zero, or a long header where a short one has room, is refused. That there is at most
-//! one such list is `values_are_told_apart`.
+//! `Values` is the way back: of types and null bits it gives the one list of values whose data the
+//! bytes begin with, and None exactly where there is no such list. So a byte between values that
+//! isn't zero, or a long header where a short one has room, is refused. That there is at most one
+//! such list is `values_are_told_apart`. The values stay where they stand, as attributes that are
+//! taken one after the other, without memory; contracts see them as the list. `read_data` is a copy
+//! of them.
+//!
+//! `cmp_values` compares the values of two tuples in place, in the order of `opclass::cmp_key`.
 //!
 //! # What is not
 //!
@@ -37,8 +41,10 @@ mod datum;
 mod laws;
 mod nulls;
 mod number;
+mod order;
 mod piece;
 mod reading;
+mod values;
 
 pub use attribute::Attribute;
 pub use data::{data_size, put_data};
@@ -47,4 +53,6 @@ pub use laws::{
     values_are_told_apart,
 };
 pub use nulls::{has_null, has_variable, null_bits};
+pub use order::{cmp_attribute, cmp_values};
 pub use reading::read_data;
+pub use values::Values;
