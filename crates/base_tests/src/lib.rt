@@ -12,4 +12,4 @@ mod files;
 #[cfg(test)]
 mod pages;
 #[cfg(test)]
-mod segments;
+mod series;
