@@ -1,9 +1,9 @@
--- Cuts of tapes are normalised keys, so that they part no records with equal keys.
+-- Key cuts of tapes are normalised keys, so that they part no records with equal keys.
 use Rattle.std.proofs.Common.{◌≡◌, ◌≢◌, ℕ, zero, suc, ◌+◌, ◌*◌, ◌/◌, ◌<◌, ◌≤◌, true, false, true≢false, not, ◌&&◌, Less, Equal, Greater, Option, Some, None, List, [], ◌∷◌, ◌++◌, length, refl, sym, ap, subst, ◌∙◌, arith, slice_index_or, slice_get, append-nil, All, inl, inr}
 use Rattle.std.specs.Prelude.{IsTrue}
 use Rattle.std.specs.declared.cmp.Ordering.{Ordering}
 use Rattle.std.specs.Ordering.{is_lt, ordering_then}
-use Rattle.std.specs.List.{flat_map, filter_map, range_with_len}
+use Rattle.std.specs.List.{filter_map, range_with_len}
 use Rattle.std.specs.List.Sorted.{IsSorted}
 use Rattle.std.proofs.lemmas.Bool.{and_parts, cases_order, not-true}
 use Rattle.std.proofs.lemmas.Option.{get_or_from_slice_get, slice_get_within, slice_get-get_or}
@@ -19,7 +19,7 @@ use Rattle.shared_tape.specs.declared.stored.Record.{Record}
 use Rattle.shared_tape.specs.Stored.{order_bytes, pointer_bytes, IsStorable}
 use Rattle.shared_tape.specs.Runs.{RunView, records_of}
 use Rattle.run_merge.specs.Sorted.{HaveOrder, AllHaveOrder, all_records}
-use Rattle.run_merge.specs.Cutting.{key_list, samples_of, all_samples, cut_at, AreCuts, is_from, is_below, cut_before, is_in_part}
+use Rattle.run_merge.specs.Cutting.{key_list, samples_of, tape_samples, all_samples, cut_at, AreCuts, is_from, is_below, cut_before, is_in_part}
 use Rattle.run_merge.proofs.Finding.{bytes_weak}
 use Rattle.run_merge.proofs.Shares.{shares_ascend}
 
@@ -83,7 +83,7 @@ module _ (order : List SortPart) where
   abbrev Parts : List ℕ → Type 0
   Parts cut = PartsByKeys order cut
 
-  run_parts : (run : RunView) → run.order ≡ order → All (IsStorable order) run.records → All Parts (samples_of run)
+  run_parts : (run : RunView) → run.order ≡ order → All (IsStorable order) run.records → All Parts (samples_of key_list run)
   run_parts run same storable =
       let all : All Parts (key_list run) =
       All-map Parts (λ row. norm_of run.order row.keys) run.records
@@ -95,27 +95,27 @@ module _ (order : List SortPart) where
       (All-get_or Parts (key_list run) (number * 64) key (slice_get_within (key_list run) (number * 64) key e) all))
 
   tape_parts : (runs : List RunView) → HaveOrder order runs → All (IsStorable order) (records_of runs)
-      → All Parts (flat_map samples_of runs)
+      → All Parts (tape_samples key_list runs)
   tape_parts [] have storable = All-nil Parts
   tape_parts (run ∷ runs) have storable =
-      All-append Parts (samples_of run) (flat_map samples_of runs)
+      All-append Parts (samples_of key_list run) (tape_samples key_list runs)
       (run_parts run (All-head (λ r. r.order ≡ order) run runs have)
       (All-front (IsStorable order) run.records (records_of runs) storable))
       (tape_parts runs (All-tail (λ r. r.order ≡ order) run runs have)
       (All-behind (IsStorable order) run.records (records_of runs) storable))
 
   samples_part : (tapes : List (List RunView)) → AllHaveOrder order tapes → All (IsStorable order) (all_records tapes)
-      → All Parts (all_samples tapes)
+      → All Parts (all_samples key_list tapes)
   samples_part [] have storable = All-nil Parts
   samples_part (tape ∷ tapes) have storable =
-      All-append Parts (flat_map samples_of tape) (all_samples tapes)
+      All-append Parts (tape_samples key_list tape) (all_samples key_list tapes)
       (tape_parts tape (All-head (HaveOrder order) tape tapes have)
       (All-front (IsStorable order) (records_of tape) (all_records tapes) storable))
       (samples_part tapes (All-tail (HaveOrder order) tape tapes have)
       (All-behind (IsStorable order) (records_of tape) (all_records tapes) storable))
 
   module _ (tapes : List (List RunView)) (parts : ℕ) (cuts : List (List ℕ)) (have : AllHaveOrder order tapes)
-      (storable : All (IsStorable order) (all_records tapes)) (are : AreCuts tapes parts cuts) where
+      (storable : All (IsStorable order) (all_records tapes)) (are : AreCuts key_list tapes parts cuts) where
     cut_parts : (number : ℕ) (cut : List ℕ) → slice_get cuts number ≡ Some cut → Parts cut
     cut_parts number cut e =
         let is : Some cut ≡ Some (cut_at are.samples parts (number + 1)) =
@@ -123,7 +123,7 @@ module _ (order : List SortPart) where
         let same : cut ≡ cut_at are.samples parts (number + 1) = cc is in
         subst Parts (sym same)
         (All-or_none Parts are.samples ((number + 1) * length are.samples / parts) []
-        (All-permutation Parts (all_samples tapes) are.samples are.same (samples_part tapes have storable))
+        (All-permutation Parts (all_samples key_list tapes) are.samples are.same (samples_part tapes have storable))
         (none_parts order))
 
     module _ (a b : Record) (p : IsStorable order a) (q : IsStorable order b)
@@ -166,7 +166,7 @@ part_once order cuts row i (suc part) up below within first second =
 
 -- no two parts have records with equal keys
 pub keys_apart : (order : List SortPart) (tapes : List (List RunView)) (parts : ℕ) (cuts : List (List ℕ))
-    → AllHaveOrder order tapes → All (IsStorable order) (all_records tapes) → AreCuts tapes parts cuts
+    → AllHaveOrder order tapes → All (IsStorable order) (all_records tapes) → AreCuts key_list tapes parts cuts
     → (a b : Record) → IsStorable order a → IsStorable order b → (i j : ℕ) → i ≤ length cuts → j ≤ length cuts → i ≢ j
     → IsTrue (is_in_part order cuts i a) → IsTrue (is_in_part order cuts j b) → key_cmp order a.keys b.keys ≢ Equal
 keys_apart order tapes parts cuts have storable are a b p q i j in_i in_j other first second level =

@@ -20,7 +20,9 @@ use Rattle.shared_tape.specs.Stored.{order_bytes, pointer_bytes}
 use Rattle.shared_tape.specs.Runs.{RunView, order_list}
 use Rattle.run_merge.specs.Cutting.{cut_at, key_list, AreAtShares}
 use Rattle.run_merge.proofs.Heaping.{no_row}
-use Rattle.run_merge.specs.Pass.{bytes_of}
+use Rattle.run_merge.specs.declared.cutting.Sampled.{Sampled}
+use Rattle.run_merge.specs.declared.cutting.Sampled.TheVariants.{OrderBytes, Key}
+use Rattle.run_merge.specs.Pass.{bytes_of, bytes_sampled}
 use Rattle.run_merge.proofs.Moves.{append-nil}
 use Rattle.run_merge.proofs.Finding.{bytes_weak}
 
@@ -41,8 +43,13 @@ key_split order row =
           ∙ take-append_seam key (pointer_bytes row.ptr),
     )
 
-pub length-key_list : (run : RunView) → length (key_list run) ≡ length run.records
+length-key_list : (run : RunView) → length (key_list run) ≡ length run.records
 length-key_list run = length-map run.records (λ row. norm_of run.order row.keys)
+
+-- a sample is had of each record
+pub length-bytes_sampled : (sampled : Sampled) (run : RunView) → length (bytes_sampled sampled run) ≡ length run.records
+length-bytes_sampled OrderBytes run = length-map run.records (order_bytes run.order)
+length-bytes_sampled Key run = length-key_list run
 
 -- the normalised key at a place of a run, as it was cut off
 pub key_found : (run : RunView) (at : ℕ) (bytes : List ℕ) → at < length run.records

@@ -15,19 +15,24 @@ use Rattle.shared_tape.specs.Runs.{RunView}
 abbrev pub STRIDE : ℕ
 STRIDE = 64
 
--- the normalised keys of a run's records
+-- the normalised keys of a run's records, with which their order bytes begin
 abbrev pub key_list : RunView → List (List ℕ)
 key_list run = map (λ row. norm_of run.order row.keys) run.records
 
--- The samples of a run: of its normalised keys, those at the places 0, 64, 128 and so on. Without the row pointers, so
--- that a cut parts no records with equal keys.
-abbrev pub samples_of : RunView → List (List ℕ)
-samples_of run =
-    filter_map (λ number. slice_get (key_list run) (number * STRIDE)) (range_with_len 0 (length (key_list run)))
+-- The samples of a run: of the bytes that its records have, those at the places 0, 64, 128 and so on. The bytes are
+-- `order_list`, so that a part may begin at any record, or `key_list`: then a cut has no row pointer, and parts no
+-- records with equal keys.
+abbrev pub samples_of : (RunView → List (List ℕ)) → RunView → List (List ℕ)
+samples_of bytes run =
+    filter_map (λ number. slice_get (bytes run) (number * STRIDE)) (range_with_len 0 (length (bytes run)))
+
+-- the samples of a tape
+abbrev pub tape_samples : (RunView → List (List ℕ)) → List RunView → List (List ℕ)
+tape_samples bytes tape = flat_map (samples_of bytes) tape
 
 -- the samples of all runs
-abbrev pub all_samples : List (List RunView) → List (List ℕ)
-all_samples tapes = flat_map (flat_map samples_of) tapes
+abbrev pub all_samples : (RunView → List (List ℕ)) → List (List RunView) → List (List ℕ)
+all_samples bytes tapes = flat_map (tape_samples bytes) tapes
 
 -- the cut with a number, counted from 1, of so many parts: the sample at its share of the samples, or nothing where
 -- there are none
@@ -39,10 +44,11 @@ pub record AreAtShares (samples : List (List ℕ)) (parts : ℕ) (cuts : List (L
   pub count : length cuts + 1 ≡ parts
   pub each : (number : ℕ) → number < length cuts → slice_get cuts number ≡ Some (cut_at samples parts (number + 1))
 
--- the cuts of tapes into parts: of their samples in order, those at equal shares
-pub record AreCuts (tapes : List (List RunView)) (parts : ℕ) (cuts : List (List ℕ)) : Type 0 where
+-- the cuts of tapes into parts, of samples with these bytes: of the samples in order, those at equal shares
+pub record AreCuts (bytes : RunView → List (List ℕ)) (tapes : List (List RunView)) (parts : ℕ)
+    (cuts : List (List ℕ)) : Type 0 where
   pub samples : List (List ℕ)
-  pub same : IsPermutation (all_samples tapes) samples
+  pub same : IsPermutation (all_samples bytes tapes) samples
   pub ascending : IsSorted bytes_cmp samples
   pub shares : AreAtShares samples parts cuts
 

@@ -10,7 +10,7 @@ use Rattle.shared_tape.specs.Stored.{IsStorable}
 use Rattle.shared_tape.specs.Runs.{RunView}
 use Rattle.run_merge.specs.Sorted.{IsSortedRecords, AreApart, AscendStrictly, AllHaveOrder, all_records}
 use Rattle.run_merge.specs.Merging.{Merging, GivesAll}
-use Rattle.run_merge.specs.Cutting.{AreCuts, is_in_part, part_of}
+use Rattle.run_merge.specs.Cutting.{AreCuts, is_in_part, key_list, part_of}
 
 -- records of which no two have equal keys and row pointers ascend strictly in their order
 abbrev pub SortedRecordsAscendStrictly : Type 0
@@ -43,11 +43,11 @@ PartsAreTheWhole =
     → IsSortedRecords order (part_of order cuts part records) (slice_index_or parts part []))
     → IsSortedRecords order records (flat_map (λ part. part) parts)
 
--- records with equal keys stand in the same parts between the cuts of tapes
+-- records with equal keys stand in the same parts between the key cuts of tapes
 abbrev pub EqualKeysStayTogether : Type 0
 EqualKeysStayTogether =
     (order : List SortPart) (tapes : List (List RunView)) (parts : ℕ) (cuts : List (List ℕ)) → AllHaveOrder order tapes
-    → All (IsStorable order) (all_records tapes) → AreCuts tapes parts cuts
+    → All (IsStorable order) (all_records tapes) → AreCuts key_list tapes parts cuts
     → (a b : Record) → IsStorable order a → IsStorable order b → key_cmp order a.keys b.keys ≡ Equal
     → (part : ℕ) → is_in_part order cuts part a ≡ is_in_part order cuts part b
 
@@ -55,6 +55,6 @@ EqualKeysStayTogether =
 abbrev pub PartsShareNoKeys : Type 0
 PartsShareNoKeys =
     (order : List SortPart) (tapes : List (List RunView)) (parts : ℕ) (cuts : List (List ℕ)) → AllHaveOrder order tapes
-    → All (IsStorable order) (all_records tapes) → AreCuts tapes parts cuts
+    → All (IsStorable order) (all_records tapes) → AreCuts key_list tapes parts cuts
     → (a b : Record) → IsStorable order a → IsStorable order b → (i j : ℕ) → i ≤ length cuts → j ≤ length cuts → i ≢ j
     → IsTrue (is_in_part order cuts i a) → IsTrue (is_in_part order cuts j b) → key_cmp order a.keys b.keys ≢ Equal

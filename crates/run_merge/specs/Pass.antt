@@ -10,7 +10,9 @@ use Rattle.run_merge.specs.Merging.{Merging, IsFirstOf, GivesInto}
 use Rattle.run_merge.specs.Sorted.{AllHaveOrder}
 use Rattle.std.specs.List.Sorted.{IsPermutation}
 use Rattle.opclass.specs.declared.spec.SortPart.{SortPart}
-use Rattle.run_merge.specs.Cutting.{is_from, is_below, is_between}
+use Rattle.run_merge.specs.declared.cutting.Sampled.{Sampled}
+use Rattle.run_merge.specs.declared.cutting.Sampled.TheVariants.{OrderBytes, Key}
+use Rattle.run_merge.specs.Cutting.{is_from, is_below, is_between, key_list}
 
 -- the records of a run that lie between two cuts
 abbrev pub records_between : Option (List ℕ) → Option (List ℕ) → RunView → List Record
@@ -56,6 +58,11 @@ pub record AreMerged (order : List SortPart) (whole merged left : List Record) :
 -- the bytes of several slices
 abbrev pub bytes_of : List (Bor (List ℕ)) → List (List ℕ)
 bytes_of slices = map (λ slice. slice.now) slices
+
+-- what samples have of the records of a run
+abbrev pub bytes_sampled : Sampled → RunView → List (List ℕ)
+bytes_sampled OrderBytes run = order_list run
+bytes_sampled Key run = key_list run
 
 -- the merge of what heads have left
 abbrev pub merging_by : List SortPart → List (List RunView) → List Head → Merging

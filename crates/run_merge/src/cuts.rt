@@ -9,8 +9,8 @@ use pg_bytes::{Bytes, Items};
 use std::alloc::Global;
 use std::marker::Model;
 
-/// Where the order is cut into parts, seen as the ascending list of the cuts, each as a normalised
-/// key.
+/// Where the order is cut into parts, seen as the ascending list of the cuts, each as order bytes
+/// or as a normalised key, which is their beginning.
 #[derive(Debug, Drop)]
 pub struct Cuts {
     cuts: Items<Bytes>,
@@ -56,7 +56,7 @@ impl Cuts {
         self.cuts.len() as u32
     }
 
-    /// The normalised key of a cut, counted from 0.
+    /// The bytes of a cut, counted from 0.
     pub fn get(&self, at: u32) -> &[u8]
         requires { at < length self.now }
         ensures { slice_get self.now at ≡ Some result.now }

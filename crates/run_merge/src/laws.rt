@@ -28,7 +28,7 @@ pub fn parts_are_the_whole()
     ensures { PartsAreTheWhole }
 {}
 
-/// Records with equal keys stand in the same parts between the cuts of tapes.
+/// Records with equal keys stand in the same parts between the key cuts of tapes.
 pub fn equal_keys_stay_together()
     ensures { EqualKeysStayTogether }
 {}

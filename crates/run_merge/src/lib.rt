@@ -7,13 +7,13 @@
 //! as one number. Comparing two heads compares these numbers, and looks at the records' bytes only
 //! where they are equal. No record is copied that is only compared, and giving one moves one head.
 //!
-//! The merge by ranges cuts the order itself. The normalised key of every 64th record of each run
-//! is a sample; the samples in order, cut at equal shares, give the cuts (`cut_points`). A part is
-//! what lies from one cut on and below the next, so a run's share of it is a range of its places,
-//! found by halving, and `merge_part` is the same heap over these ranges, as `merge_range` is where
-//! a part is to be a run of its own. Parts share no record and need no lock. A cut has no row
-//! pointer, so they share no key either, and each can be used by itself where rows with equal keys
-//! belong together.
+//! The merge by ranges cuts the order itself. Every 64th record of each run is a sample; the
+//! samples in order, cut at equal shares, give the cuts. A part is what lies from one cut on and
+//! below the next, so a run's share of it is a range of its places, found by halving, and
+//! `merge_part` is the same heap over these ranges, as `merge_range` is where a part is to be a run
+//! of its own. Parts share no record and need no lock. A cut of `cut_points` is a sample's order
+//! bytes. One of `key_cuts` has no row pointer, so the parts share no key either, and each can be
+//! used by itself where rows with equal keys belong together.
 //!
 //! The invariant: no head is behind one of its two children, and what the heads have left is what
 //! the merge has left.
@@ -30,8 +30,9 @@
 //!   `PartMerge::next_into` gives them as `Merged::next_into` does; `merge_range` makes them a run.
 //!   The parts behind each other are the whole in order, for whatever ascending cuts
 //!   (`parts_are_the_whole`).
-//! - `cut_points` gives the samples at equal shares, one cut less than there are parts. Records
-//!   with equal keys then stand in one part (`equal_keys_stay_together`, `parts_share_no_keys`).
+//! - `cut_points` and `key_cuts` give the samples at equal shares, one cut less than there are
+//!   parts: their order bytes, or their normalised keys. Between key cuts records with equal keys
+//!   stand in one part (`equal_keys_stay_together`, `parts_share_no_keys`).
 //! - `Merged::in_order` gives records that stand in order already as they stand.
 //!
 //! # What is not
@@ -57,7 +58,7 @@ mod part_merge;
 mod range;
 
 pub use cuts::Cuts;
-pub use cutting::cut_points;
+pub use cutting::{cut_points, key_cuts};
 pub use laws::{
     equal_keys_stay_together, merges_give_sorted, ordered_are_given_in_place, parts_are_the_whole,
     parts_share_no_keys, sorted_records_are_one, sorted_records_ascend_strictly,

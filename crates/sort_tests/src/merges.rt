@@ -4,7 +4,7 @@ ghost use Rattle.run_merge.specs.Sorted.{AllHaveOrder, HaveOrder};
 
 use opclass::{KeyList, KeyVal, SortPart, SortSpec};
 use pg_bytes::{Items, RowPtr};
-use run_merge::{Cuts, Merged, cut_points, merge, merge_part, merge_range};
+use run_merge::{Cuts, Merged, cut_points, key_cuts, merge, merge_part, merge_range};
 use shared_tape::{Record, Run, Tape, Tapes};
 use std::alloc::{AllocError, Global};
 use std::process::Abort;
@@ -166,7 +166,7 @@ fn assert_between(
     Ok(())
 }
 
-// That the parts of so many are these rows.
+// That the parts of so many are these rows, whichever cuts part them.
 fn assert_parts(
     rt: &impl Abort,
     alloc: Global,
@@ -181,7 +181,9 @@ fn assert_parts(
 {
     let order = order_of(alloc, part)?;
     let cuts = cut_points(alloc, tapes, parts, &order)?;
-    assert_between(rt, alloc, tapes, &cuts, &order, wanted)
+    assert_between(rt, alloc, tapes, &cuts, &order, wanted)?;
+    let by_keys = key_cuts(alloc, tapes, parts, &order)?;
+    assert_between(rt, alloc, tapes, &by_keys, &order, wanted)
 }
 
 // That these tapes merge to these rows, at once and in parts.
@@ -282,12 +284,54 @@ fn many_runs_merge_in_order(rt: HostRuntime) -> Result<(), Fail> {
     assert_gives(&rt, alloc, merged, &wanted)
 }
 
-// That the parts of so many have so many records each.
+// That the parts between these cuts have so many records each.
 fn assert_sizes(
     rt: &impl Abort,
     alloc: Global,
     tapes: &Tapes,
+    cuts: &Cuts,
+    sizes: &[usize],
+) -> Result<(), Fail>
+    requires { AllHaveOrder (ASCENDING ∷ []) tapes.now }
+{
+    let order = order_of(alloc, ASCENDING)?;
+    let mut sizes_left = sizes.iter();
+    for part in 0..=cuts.len() {
+        let run = merge_range(alloc, tapes, cuts, part, &order)?;
+        assert!(rt; Some(run.len()) == sizes_left.next().copied());
+    }
+    assert!(rt; sizes_left.next().is_none());
+    Ok(())
+}
+
+// That cuts are these, and how many records the parts between them have.
+fn assert_cuts(
+    rt: &impl Abort,
+    alloc: Global,
+    tapes: &Tapes,
+    cuts: &Cuts,
+    wanted: &[&[u8]],
+    sizes: &[usize],
+) -> Result<(), Fail>
+    requires { AllHaveOrder (ASCENDING ∷ []) tapes.now }
+{
+    let mut left = wanted.iter();
+    for number in 0..cuts.len() {
+        assert!(rt; Some(cuts.get(number)) == left.next().copied());
+    }
+    assert!(rt; left.next().is_none());
+    assert_sizes(rt, alloc, tapes, cuts, sizes)
+}
+
+// That the cuts into so many parts are these order bytes, or without the row pointers these keys,
+// and that either way the parts have so many records.
+fn assert_both_cuts(
+    rt: &impl Abort,
+    alloc: Global,
+    tapes: &Tapes,
     parts: u32,
+    wanted: &[&[u8]],
+    wanted_keys: &[&[u8]],
     sizes: &[usize],
 ) -> Result<(), Fail>
     requires some { 1 ≤ parts }
@@ -296,69 +340,53 @@ fn assert_sizes(
 {
     let order = order_of(alloc, ASCENDING)?;
     let cuts = cut_points(alloc, tapes, parts, &order)?;
-    let mut sizes_left = sizes.iter();
-    for part in 0..=cuts.len() {
-        let run = merge_range(alloc, tapes, &cuts, part, &order)?;
-        assert!(rt; Some(run.len()) == sizes_left.next().copied());
-    }
-    assert!(rt; sizes_left.next().is_none());
-    Ok(())
+    assert_cuts(rt, alloc, tapes, &cuts, wanted, sizes)?;
+    let by_keys = key_cuts(alloc, tapes, parts, &order)?;
+    assert_cuts(rt, alloc, tapes, &by_keys, wanted_keys, sizes)
 }
 
-// That the cuts into so many parts are these, and how many records the parts have.
-fn assert_cuts(
-    rt: &impl Abort,
-    alloc: Global,
-    tapes: &Tapes,
-    parts: u32,
-    wanted: &[&[u8]],
-    sizes: &[usize],
-) -> Result<(), Fail>
-    requires some { 1 ≤ parts }
-    requires few { parts ≤ 32 }
-    requires order { AllHaveOrder (ASCENDING ∷ []) tapes.now }
+// A tape with one run of the numbers from 1 to 200.
+fn tapes_of_200(alloc: Global) -> Result<Tapes, AllocError>
+    ensures { IfOk result (AllHaveOrder (ASCENDING ∷ [])) }
 {
-    let cuts = cut_points(alloc, tapes, parts, &order_of(alloc, ASCENDING)?)?;
-    let mut left = wanted.iter();
-    for number in 0..cuts.len() {
-        assert!(rt; Some(cuts.get(number)) == left.next().copied());
+    let mut rows = Vec::new(alloc);
+    for number in 1..=200u16 {
+        rows.push((Some(i64::from(number)), 0, number))?;
     }
-    assert!(rt; left.next().is_none());
-    assert_sizes(rt, alloc, tapes, parts, sizes)
+    tapes_of(alloc, ASCENDING, &[&[&rows]])
 }
 
 #[test]
 fn the_order_is_cut_at_samples(rt: HostRuntime) -> Result<(), Fail> {
     let alloc = rt.alloc();
-    let mut rows = Vec::new(alloc);
-    for number in 1..=200u16 {
-        rows.push((Some(i64::from(number)), 0, number))?;
-    }
-    let whole = tapes_of(alloc, ASCENDING, &[&[&rows]])?;
-    let bytes_65: &[u8] = &[1, 0x80, 0, 0, 0, 0, 0, 0, 65];
-    let bytes_129: &[u8] = &[1, 0x80, 0, 0, 0, 0, 0, 0, 129];
-    let bytes_193: &[u8] = &[1, 0x80, 0, 0, 0, 0, 0, 0, 193];
-    assert_cuts(
+    let bytes_65: &[u8] = &[1, 0x80, 0, 0, 0, 0, 0, 0, 65, 0, 0, 0, 0, 0, 65];
+    let bytes_129: &[u8] = &[1, 0x80, 0, 0, 0, 0, 0, 0, 129, 0, 0, 0, 0, 0, 129];
+    let bytes_193: &[u8] = &[1, 0x80, 0, 0, 0, 0, 0, 0, 193, 0, 0, 0, 0, 0, 193];
+    assert_both_cuts(
         &rt,
         alloc,
-        &whole,
+        &tapes_of_200(alloc)?,
         4,
         &[bytes_65, bytes_129, bytes_193],
+        &[&bytes_65[..9], &bytes_129[..9], &bytes_193[..9]],
         &[64, 64, 64, 8],
     )?;
     let none = tapes_of(alloc, ASCENDING, &[])?;
-    assert_cuts(&rt, alloc, &none, 4, &[&[], &[], &[]], &[0, 0, 0, 0])?;
+    let empty: &[&[u8]] = &[&[], &[], &[]];
+    assert_both_cuts(&rt, alloc, &none, 4, empty, empty, &[0, 0, 0, 0])?;
     let one = tapes_of(alloc, ASCENDING, &[&[&[(Some(5), 1, 2)]]])?;
-    let bytes_5: &[u8] = &[1, 0x80, 0, 0, 0, 0, 0, 0, 5];
-    assert_cuts(&rt, alloc, &one, 2, &[bytes_5], &[0, 1])?;
+    let bytes_5: &[u8] = &[1, 0x80, 0, 0, 0, 0, 0, 0, 5, 0, 0, 0, 1, 0, 2];
+    let key_5 = &bytes_5[..9];
+    assert_both_cuts(&rt, alloc, &one, 2, &[bytes_5], &[key_5], &[0, 1])?;
     let same: &[Row] = &[(Some(5), 1, 2)];
     let equal = tapes_of(alloc, ASCENDING, &[&[same, same, same], &[same]])?;
-    assert_cuts(
+    assert_both_cuts(
         &rt,
         alloc,
         &equal,
         4,
         &[bytes_5, bytes_5, bytes_5],
+        &[key_5, key_5, key_5],
         &[0, 0, 0, 4],
     )
 }
@@ -386,17 +414,44 @@ fn tapes_in_turn(alloc: Global, keys: u16) -> Result<Tapes, AllocError>
     tapes_of(alloc, ASCENDING, &[&[&first, &second], &[&third, &fourth]])
 }
 
+// That the parts of so many between key cuts have so many records each.
+fn assert_key_parts(
+    rt: &impl Abort,
+    alloc: Global,
+    tapes: &Tapes,
+    parts: u32,
+    sizes: &[usize],
+) -> Result<(), Fail>
+    requires some { 1 ≤ parts }
+    requires few { parts ≤ 32 }
+    requires order { AllHaveOrder (ASCENDING ∷ []) tapes.now }
+{
+    let cuts = key_cuts(alloc, tapes, parts, &order_of(alloc, ASCENDING)?)?;
+    assert_sizes(rt, alloc, tapes, &cuts, sizes)
+}
+
 #[test]
 fn equal_keys_stay_in_one_part(rt: HostRuntime) -> Result<(), Fail> {
     let alloc = rt.alloc();
     let equal = tapes_in_turn(alloc, 1)?;
-    assert_sizes(&rt, alloc, &equal, 1, &[1000])?;
-    assert_sizes(&rt, alloc, &equal, 2, &[0, 1000])?;
+    assert_key_parts(&rt, alloc, &equal, 1, &[1000])?;
+    assert_key_parts(&rt, alloc, &equal, 2, &[0, 1000])?;
     let mut last_of_31 = [0; 31];
     last_of_31[30] = 1000;
-    assert_sizes(&rt, alloc, &equal, 31, &last_of_31)?;
+    assert_key_parts(&rt, alloc, &equal, 31, &last_of_31)?;
     let three = tapes_in_turn(alloc, 3)?;
-    assert_sizes(&rt, alloc, &three, 8, &[0, 0, 0, 332, 0, 336, 0, 332])
+    assert_key_parts(&rt, alloc, &three, 8, &[0, 0, 0, 332, 0, 336, 0, 332])
+}
+
+#[test]
+fn equal_keys_are_cut_by_their_row_pointers(rt: HostRuntime) -> Result<(), Fail> {
+    let alloc = rt.alloc();
+    let equal = tapes_in_turn(alloc, 1)?;
+    let order = order_of(alloc, ASCENDING)?;
+    let in_two = cut_points(alloc, &equal, 2, &order)?;
+    assert_sizes(&rt, alloc, &equal, &in_two, &[500, 500])?;
+    let in_four = cut_points(alloc, &equal, 4, &order)?;
+    assert_sizes(&rt, alloc, &equal, &in_four, &[250, 250, 250, 250])
 }
 
 // The records of one run.

@@ -14,7 +14,7 @@ use crate::key_parts::{PartWork, make_parts};
 use gin_pack::{EntryPacker, PostingRun, PostingWriter, pack};
 use opclass::{ColType, Kinds, SortSpec};
 use pg_bytes::IndexImage;
-use run_merge::{Cuts, cut_points, merge, merge_part};
+use run_merge::{Cuts, key_cuts, merge, merge_part};
 use shared_tape::{Record, Tapes};
 use std::alloc::{AllocError, Global};
 use std::thread::Threads;
@@ -110,7 +110,7 @@ fn pack_parts<Rt: Threads + Sync>(
     ensures refused { IfErr result (λ fault. fault ≡ LeadFault.Memory) }
 {
     let kind = *kinds.get(0);
-    let cuts = cut_points(alloc, tapes, threads, order)?;
+    let cuts = key_cuts(alloc, tapes, threads, order)?;
     let work = PostingWork { kind };
     let runs = make_parts(rt, alloc, &work, tapes, &cuts, cuts.len() + 1, order)?;
     Ok(store(alloc, kind, runs)?)

@@ -17,7 +17,7 @@ use crate::plan::Plan;
 use btree_pack::{LeafRun, RunPacker};
 use opclass::SortSpec;
 use pg_bytes::IndexImage;
-use run_merge::{Cuts, cut_points, merge_part};
+use run_merge::{Cuts, key_cuts, merge_part};
 use shared_tape::Tapes;
 use std::alloc::{AllocError, Global};
 use std::thread::Threads;
@@ -118,7 +118,7 @@ fn pack_parts<Rt: Threads + Sync>(
         (index_kinds plan.now.table plan.now.spec) order.now (all_records tapes.now)) }
     ensures refused { IfErr result (IsPackFault plan.now.spec order.now (all_records tapes.now)) }
 {
-    let cuts = cut_points(alloc, tapes, threads, order)?;
+    let cuts = key_cuts(alloc, tapes, threads, order)?;
     let work = LeafWork { plan };
     let runs = make_parts(rt, alloc, &work, tapes, &cuts, cuts.len() + 1, order)?;
     Ok(lay(alloc, plan, runs)?)

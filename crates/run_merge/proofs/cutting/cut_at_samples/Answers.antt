@@ -4,9 +4,9 @@ use Rattle.std.proofs.lemmas.List.Sorted.{IsPermutation-map}
 use Rattle.opclass.specs.Order.{bytes_cmp}
 use Rattle.std.proofs.lemmas.Result.{IfOk-weaker}
 use Rattle.run_merge.specs.Cutting.{AreAtShares, AreCuts}
-use Rattle.run_merge.specs.Pass.{bytes_of}
+use Rattle.run_merge.specs.Pass.{bytes_of, bytes_sampled}
 use Rattle.run_merge.proofs.Shares.{sorted_bytes}
-use Rattle.run_merge.proofs.cutting.cut_points.Goals as goal
+use Rattle.run_merge.proofs.cutting.cut_at_samples.Goals as goal
 
 pub choose_cuts-requires-clause-ascending : goal.choose_cuts-requires-clause-ascending
 choose_cuts-requires-clause-ascending c =
@@ -15,7 +15,7 @@ choose_cuts-requires-clause-ascending c =
 
 pub returns : goal.returns
 returns c = IfOk-weaker c.choose_cuts.result (AreAtShares (bytes_of c.deref.result.now) c.args.parts)
-    (AreCuts c.args.tapes.now c.args.parts) (λ cuts shares. record {
+    (AreCuts (bytes_sampled c.args.sampled) c.args.tapes.now c.args.parts) (λ cuts shares. record {
       samples = bytes_of c.deref.result.now;
       same = subst (λ l. IsPermutation l (bytes_of c.deref.result.now)) c.in_ok-samples.ensures
           (subst (λ l. IsPermutation (bytes_of c.in_ok-samples.samples.items) (bytes_of l)) (sym c.deref.ensures.value)
