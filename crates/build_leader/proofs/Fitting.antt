@@ -26,7 +26,7 @@ use Rattle.brin_summary.specs.declared.ranges.SummedRange.{SummedRange}
 use Rattle.build_leader.specs.Ranges.{HoldRanges, range_summary, told_of, values_in}
 use Rattle.build_leader.proofs.Holding.{IsOfRange}
 use Rattle.build_leader.proofs.Reading.{few_bytes}
-use Rattle.build_leader.proofs.Telling.{summary_has_columns}
+use Rattle.build_leader.proofs.RangeSummaries.{summary_has_columns}
 
 -- ---- what holds of null and of each value of rows holds of the bounds
 

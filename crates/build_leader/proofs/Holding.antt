@@ -14,7 +14,7 @@ use Rattle.shared_tape.specs.declared.stored.Record.{Record}
 use Rattle.brin_summary.specs.declared.ranges.SummedRange.{SummedRange}
 use Rattle.build_leader.specs.Ranges.{HoldRanges, range_count, range_of, range_summaries, range_summary, told_of, told_ranges, values_in}
 use Rattle.build_leader.proofs.Lists.{map_same}
-use Rattle.build_leader.proofs.Telling.{told_both}
+use Rattle.build_leader.proofs.RangeSummaries.{told_both}
 
 module _ (pages_per_range range : ℕ) where
   abbrev pub IsOfRange : Record → Bool

@@ -20,7 +20,7 @@ use Rattle.shared_tape.specs.declared.stored.Record.{Record}
 use Rattle.btree_item.specs.Tuple.{size_of}
 use Rattle.btree_pack.specs.Pass.Put.{AreColumnsOf}
 use Rattle.btree_pack.specs.Pass.Taken.{IsRowOf, row_of}
-use Rattle.build_leader.specs.declared.width.WidthCause.TheVariants as width
+use Rattle.build_leader.specs.declared.scan.width.WidthCause.TheVariants as width
 use Rattle.build_leader.specs.HeapRows.{AreBlockRows, AreHeapRows, AreRowsOfBlocks, HasSoundBlocks, HasSoundItems, IsSoundBlock}
 use Rattle.build_leader.specs.IndexRow.{AreIndexRows, AreValuesOf, HasIndexValues, TooWide, index_columns, index_kinds, key_columns, most_tuple, needed_of}
 use Rattle.build_leader.specs.Pass.{AreRowsOf}

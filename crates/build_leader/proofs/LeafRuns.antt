@@ -30,7 +30,7 @@ use Rattle.run_merge.specs.Sorted.{IsSortedRecords}
 use Rattle.build_leader.specs.declared.fault.LeadFault.{LeadFault}
 use Rattle.build_leader.specs.declared.fault.LeadFault.TheVariants as lead
 use Rattle.build_leader.specs.KeyParts.{AreMade, AreOfParts, IsRefused, IsRefusedAt, SharesNoKeys}
-use Rattle.build_leader.specs.Pass.{AreRowsOf, HoldRows, IsFileOfRuns, IsIndexRow, IsPackFault, IsPackedFile, IsWrittenRun, KeepsUnique, WerePut}
+use Rattle.build_leader.specs.Pass.{AreRowsOf, HoldLeafRows, IsFileOfRuns, IsTypedRow, IsPackFault, IsPackedFile, IsWrittenRun, KeepsUnique, WerePut}
 use Rattle.build_leader.specs.Unique.{Clash, IsFirstClash, NoneClash}
 use Rattle.build_leader.proofs.PartRows.{Apart, all_parts, between, completed, first_append, from_part, keys_differ, none_append}
 
@@ -112,7 +112,7 @@ module _ (spec : IndexSpec) (kinds : List ColType) (order : List SortPart) (cuts
       → AreOfParts order cuts records count rows → KeepsUnique spec rows
       → ((place : ℕ) (run : RunView) → slice_get runs place ≡ Some run → written (count + place) run)
       → (all : List Record) × (AreOfParts order cuts records (length cuts + 1) all × KeepsUnique spec all
-      × HoldRows spec kinds (map row_of rows) runs (map row_of all))
+      × HoldLeafRows spec kinds (map row_of rows) runs (map row_of all))
   hold [] count rows long are unique each =
       let whole : count ≡ length cuts + 1 = omega (arith, long) in
       (rows, (subst (λ (n : ℕ). AreOfParts order cuts records n rows) whole are, unique, refl))
@@ -132,21 +132,21 @@ module _ (spec : IndexSpec) (kinds : List ColType) (order : List SortPart) (cuts
             map row_of last,
             first.leaves,
             keys_part order rows last differ,
-            subst (λ before. HoldRows spec kinds before runs (map row_of rest.0)) (map-append row_of rows last) rest.1.2,
+            subst (λ before. HoldLeafRows spec kinds before runs (map row_of rest.0)) (map-append row_of rows last) rest.1.2,
           ),
         ),
       )
 
   module _ (runs : List RunView) (are : AreMade (IsWrittenRun spec kinds order) order cuts records (length cuts + 1) runs) where
     all_held : (all : List Record) × (AreOfParts order cuts records (length cuts + 1) all × KeepsUnique spec all
-        × HoldRows spec kinds [] runs (map row_of all))
+        × HoldLeafRows spec kinds [] runs (map row_of all))
     all_held =
         let long = are.count_is in
         hold runs 0 [] (omega (arith, long)) refl (λ said. none_of_none spec)
         (λ place run at. (let e : place ≡ 0 + place = omega arith in
         subst (λ (n : ℕ). written n run) e (are.each place run at)))
 
-    pub runs_hold : (rows : List Row) × HoldRows spec kinds [] runs rows
+    pub runs_hold : (rows : List Row) × HoldLeafRows spec kinds [] runs rows
     runs_hold = (map row_of all_held.0, all_held.1.2)
 
     pub runs_are_packed : (file : List ℕ) → IsFileOfRuns spec kinds runs file → IsPackedFile spec kinds order records file
@@ -240,21 +240,21 @@ module _ (spec : IndexSpec) (kinds : List ColType) where
   -- rows of the index are so in each part
   pub rows_of_part : (order : List SortPart) (cuts : List (List ℕ)) (part : ℕ) (records : List Record)
       → AreRowsOf spec kinds records → AreRowsOf spec kinds (part_of order cuts part records)
-  rows_of_part order cuts part records rows = All-filter (is_in_part order cuts part) (IsIndexRow spec kinds) records rows
+  rows_of_part order cuts part records rows = All-filter (is_in_part order cuts part) (IsTypedRow spec kinds) records rows
 
   -- runs on their way onto pages: those that are left are of the rows behind those that were added
   abbrev pub AreAdded : List RunView → List RunView → Adding → Type 0
   AreAdded runs left packer =
-      (rows : List Row) → HoldRows spec kinds [] runs rows
-      → (before : List Row) × HasAdded spec kinds before packer × HoldRows spec kinds before left rows
+      (rows : List Row) → HoldLeafRows spec kinds [] runs rows
+      → (before : List Row) × HasAdded spec kinds before packer × HoldLeafRows spec kinds before left rows
 
   pub none_added : (runs left : List RunView) (packer : Adding) → left ≡ runs → HasAdded spec kinds [] packer
       → AreAdded runs left packer
   none_added runs left packer all has rows hold =
-      ([], has, subst (λ left. HoldRows spec kinds [] left rows) (sym all) hold)
+      ([], has, subst (λ left. HoldLeafRows spec kinds [] left rows) (sym all) hold)
 
   pub may_add : (runs left : List RunView) (run : RunView) (packer : Adding) → AreAdded runs (run ∷ left) packer
-      → (rows : List Row) × HoldRows spec kinds [] runs rows → AddsRun packer run
+      → (rows : List Row) × HoldLeafRows spec kinds [] runs rows → AddsRun packer run
   may_add runs left run packer added held =
       let so_far = added held.0 held.1 in
       adds_run spec kinds so_far.0 so_far.2.0 packer run so_far.1 so_far.2.1
@@ -275,5 +275,5 @@ module _ (spec : IndexSpec) (kinds : List ColType) where
   all_added runs left packer file none added gives rows hold =
       let so_far = added rows hold in
       let is : rows ≡ so_far.0 =
-      subst (λ left. HoldRows spec kinds so_far.0 left rows) (nil_from_length left none) so_far.2 in
+      subst (λ left. HoldLeafRows spec kinds so_far.0 left rows) (nil_from_length left none) so_far.2 in
       subst (λ put. file ≡ btree_file (images_of kinds (length spec.keys)) spec put) (sym is) (gives spec kinds so_far.0 so_far.1)

@@ -6,7 +6,7 @@ pub mod SameRows
 -- the columns that an index needs
 pub mod Needed
 -- the values of its columns, out of those of the needed ones
-pub mod Picking
+pub mod PickedValues
 -- its rows have different row pointers
 pub mod Apart
 -- the rows of a sound heap are rows of the index
@@ -26,37 +26,37 @@ pub mod ReadRows
 -- lists by their places
 pub mod Lists
 -- what summaries tell of a range
-pub mod Telling
+pub mod RangeSummaries
 -- what workers know of ranges
 pub mod Holding
 -- how workers' ranges become those of the heap
-pub mod Uniting
+pub mod UnitedRanges
 -- how a worker's ranges grow
-pub mod Tallying
+pub mod RangeTallies
 -- the tuples of ranges have room
 pub mod Fitting
 -- what workers hold
-pub mod Held
+pub mod HeldRows
 -- a row goes into a sink
 pub mod Sinking
 -- the rows of a page go into a sink
-pub mod Rows
+pub mod PageRows
 -- its blocks come to one thing
 pub mod Determined
 -- neighbours tell of clashes
 pub mod Neighbours
 -- rows can be put in order
-pub mod Inserting
+pub mod InsertedRows
 -- what parts have become
-pub mod Made
+pub mod MadeParts
 -- the parts of rows, one behind the other
 pub mod PartRows
 -- runs of leaf tuples of the parts
 pub mod LeafRuns
 -- rows on their way into a packer
-pub mod Coming
+pub mod PackerRows
 -- lists that have each number as often
-pub mod Counting
+pub mod EqualCounts
 -- legal claims share out the rows
 pub mod SharedRows
 -- what a scan left with the workers
@@ -64,12 +64,12 @@ pub mod ScannedRows
 -- runs of postings of the parts
 pub mod PostingRuns
 -- what a worker has, block by block
-pub mod Working
+pub mod WorkerBlocks
 -- and claim by claim
-pub mod Claiming
+pub mod WorkerClaims
 -- what workers have together
-pub mod Teaming
+pub mod Teams
 -- what all of them come to at the end
-pub mod Finishing
+pub mod ScanOutcomes
 -- what is packed of it
 pub mod Packed

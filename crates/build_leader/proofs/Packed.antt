@@ -27,7 +27,7 @@ use Rattle.build_leader.specs.declared.fault.LeadFault.TheVariants as lead
 use Rattle.build_leader.specs.declared.plan.Plan.{Plan}
 use Rattle.brin_summary.specs.declared.ranges.SummedRange.{SummedRange}
 use Rattle.build_leader.specs.declared.taken.Packed.{Packed}
-use Rattle.build_leader.specs.declared.width.WidthCause.TheVariants as width
+use Rattle.build_leader.specs.declared.scan.width.WidthCause.TheVariants as width
 use Rattle.build_leader.specs.Calls.{IsLeadFault, IsPlan, fault_of_ranges}
 use Rattle.build_leader.specs.Entries.{rows_entries}
 use Rattle.build_leader.specs.Gin.{AreEntries, most_records}

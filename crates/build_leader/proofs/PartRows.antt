@@ -22,8 +22,8 @@ use Rattle.run_merge.proofs.Merging.{filter-all}
 use Rattle.run_merge.proofs.Parts.{parts_whole}
 use Rattle.build_leader.specs.KeyParts.{AreOfParts, SharesNoKeys}
 use Rattle.build_leader.specs.Unique.{Clash, ClashAt, IsFirstClash, NoneClash}
-use Rattle.build_leader.proofs.Coming.{get-left, get-right}
-use Rattle.build_leader.proofs.Inserting.{in_order}
+use Rattle.build_leader.proofs.PackerRows.{get-left, get-right}
+use Rattle.build_leader.proofs.InsertedRows.{in_order}
 
 -- ---- rows put behind others
 

@@ -1,5 +1,5 @@
 -- How an item is read, and what its record is.
-use Rattle.std.proofs.Common.{◌≡◌, ◌≢◌, ◌⊎◌, inl, inr, ℕ, ◌+◌, ◌^◌, ◌<◌, ◌≤◌, List, [], ◌∷◌, ◌++◌, length, map, take, drop, get_or, Bool, true, false, Some, Result, Ok, slice_get, refl, sym, ap, ap₂, subst, ◌∙◌, arith, rules, All}
+use Rattle.std.proofs.Common.{◌≡◌, ◌≢◌, ℕ, ◌+◌, ◌^◌, ◌<◌, ◌≤◌, List, [], ◌∷◌, ◌++◌, length, map, take, drop, get_or, Bool, true, false, Some, Result, Ok, slice_get, refl, sym, ap, ap₂, subst, ◌∙◌, arith, rules, All}
 use Rattle.std.specs.Prelude.{◌↔◌, IfSome, IsTrue}
 use Rattle.std.specs.List.{AllZip}
 use Rattle.std.proofs.lemmas.Bool.{true≢false}
@@ -43,8 +43,8 @@ use Rattle.spool.specs.Gathers.{AreStorableEntries}
 use Rattle.shared_tape.proofs.Lengths.{stored_short}
 use Rattle.btree_item.specs.Tuple.{size_of}
 use Rattle.btree_item.proofs.Sizes.{few_size}
-use Rattle.build_leader.specs.declared.row_reader.RowReader.TheInside.{Inside}
-use Rattle.build_leader.specs.declared.width.WidthCause.{WidthCause}
+use Rattle.build_leader.specs.declared.scan.row_reader.RowReader.TheInside.{Inside}
+use Rattle.build_leader.specs.declared.scan.width.WidthCause.{WidthCause}
 use Rattle.build_leader.specs.Entries.{array_of}
 use Rattle.build_leader.specs.Holding.{IsTakeableBy}
 use Rattle.build_leader.specs.IndexRow.{AreTooWide, AreValuesOf, HasIndexValues, IsLeftOut, TooWide, Unread, index_columns, index_kinds, key_columns, needed_of}
@@ -52,7 +52,7 @@ use Rattle.build_leader.specs.Outcome.{order_of_index}
 use Rattle.build_leader.specs.Reader.{AreAt, AreNeeded, AreNeededOrLeft, AreRead, AreReadOrLeft, IsItemFault, IsReadRecord, IsReadable, IsSoundItem, IsSoundReader, IsWidthFault, ReaderView}
 use Rattle.build_leader.proofs.EntryRecords.{row_is_storable, short_values, typed_values}
 use Rattle.build_leader.proofs.Needed.{columns_are_keys, needed_ascends, needed_columns}
-use Rattle.build_leader.proofs.Picking.{Less, are_key_values, own_values, picks, places_inside, places_of_keys}
+use Rattle.build_leader.proofs.PickedValues.{Less, are_key_values, own_values, picks, places_inside, places_of_keys}
 
 -- ---- the columns of an index
 
@@ -127,11 +127,6 @@ module _ (reader : ReaderView) (inside : Inside) (of : IsInsideOf reader inside)
   needed_are =
       subst (λ (needed : List ℕ). AreColumnsOf inside.table.now.columns needed) (sym of.needed)
       (subst (λ (table : Table). AreColumnsOf table.columns needed_here) (sym of.table) (needed_columns reader.table reader.spec))
-
-  -- others than GIN take no arrays
-  pub no_arrays : (inside.spec.now.method ≡ method.BTree) ⊎ (inside.spec.now.method ≡ method.Brin) → reader.spec.method ≢ method.Gin
-  no_arrays (inl tree) gin = let same = ap (λ (spec : IndexSpec). spec.method) of.spec in cc
-  no_arrays (inr ranges) gin = let same = ap (λ (spec : IndexSpec). spec.method) of.spec in cc
 
   -- an index of arrays has one column
   pub one_place : reader.spec.method ≡ method.Gin → length inside.places.items ≡ 1

@@ -16,13 +16,13 @@ use Rattle.spool.specs.Spools.{AreBoundedRuns, IsBoundedRun}
 use Rattle.run_merge.specs.Sorted.{AllHaveOrder, all_records}
 use Rattle.build_leader.specs.declared.plan.Plan.{Plan}
 use Rattle.brin_summary.specs.declared.ranges.SummedRange.{SummedRange}
-use Rattle.build_leader.specs.declared.scanned.Scanned.{Scanned}
+use Rattle.build_leader.specs.declared.scan.scanned.Scanned.{Scanned}
 use Rattle.build_leader.specs.declared.taken.Packed.{Packed}
 use Rattle.build_leader.specs.Calls.{ArePartsFrom, IsBuilt, IsOpenedFor, IsPartOf, IsScanned}
 use Rattle.build_leader.specs.Holding.{HoldRows, held_on, order_by}
 use Rattle.build_leader.specs.Laws.{AreRowsOfWorkers, ClaimsShareTheRows}
 use Rattle.build_leader.specs.Packing.{HaveHeapRows, IsPackedOf}
-use Rattle.build_leader.proofs.Held.{hold_none, hold_permuted, hold_together}
+use Rattle.build_leader.proofs.HeldRows.{hold_none, hold_permuted, hold_together}
 
 module _ (plan : Plan) (heap : List ℕ) (claims : List Claim) where
   abbrev order : List SortPart

@@ -19,7 +19,7 @@ use Rattle.run_merge.proofs.Moves.{moves, turn_lists}
 use Rattle.build_leader.specs.Claimed.{blocks_of_claim, claimed_blocks}
 use Rattle.build_leader.specs.HeapRows.{AreRowsOfBlocks}
 use Rattle.build_leader.specs.Laws.{AreRowsOfWorkers, ClaimsShareTheRows}
-use Rattle.build_leader.proofs.Counting.{permuted, times, times-append, times-below, times-range, times-range_zero}
+use Rattle.build_leader.proofs.EqualCounts.{permuted, times, times-append, times-below, times-range, times-range_zero}
 use Rattle.build_leader.proofs.SameRows.{same_rows_of_blocks}
 
 -- ---- how often the workers have a block

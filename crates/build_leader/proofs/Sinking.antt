@@ -1,5 +1,5 @@
 -- A row goes into a sink, whichever it is.
-use Rattle.std.proofs.Common.{◌≡◌, List, [], ◌∷◌, ◌++◌, length, Some, get_or, slice_get, refl, sym, ap, subst, ◌∙◌}
+use Rattle.std.proofs.Common.{◌≡◌, ◌≢◌, ◌<◌, ◌≤◌, List, [], arith, ◌∷◌, ◌++◌, length, Some, get_or, slice_get, refl, sym, ap, subst, ◌∙◌}
 use Rattle.std.specs.List.Sorted.{IsPermutation}
 use Rattle.std.proofs.lemmas.List.{append-nil}
 use Rattle.std.proofs.lemmas.List.Sorted.{IsPermutation-append_left, IsPermutation-trans}
@@ -8,18 +8,26 @@ use Rattle.opclass.specs.declared.spec.IndexSpec.{IndexSpec}
 use Rattle.opclass.specs.declared.spec.SortPart.{SortPart}
 use Rattle.opclass.specs.declared.types.Method.{Method}
 use Rattle.opclass.specs.declared.types.Method.TheVariants.{BTree, Brin, Gin}
+use Rattle.opclass.specs.declared.types.ColType.{ColType}
 use Rattle.opclass.specs.declared.value.KeyVal.{KeyVal}
 use Rattle.opclass.specs.declared.value.KeyVal.TheVariants.{Nil}
+use Rattle.heap_row.specs.declared.fault.RowFault.{RowFault}
+use Rattle.heap_row.specs.declared.fault.RowFault.TheVariants.{Memory, Value}
+use Rattle.btree_item.specs.Tuple.{size_of}
 use Rattle.shared_tape.specs.declared.stored.Record.{Record}
 use Rattle.shared_tape.specs.Stored.{IsStorable}
 use Rattle.spool.specs.Gathers.{GatherView, TakesRow, entry_records}
 use Rattle.spool.specs.Spools.{SpoolView, TakesRecord}
-use Rattle.build_leader.specs.declared.ranges.RangeTally.{RangeTally}
-use Rattle.build_leader.specs.declared.sink.Sink.{Sink}
-use Rattle.build_leader.specs.declared.sink.Sink.TheVariants.{Rows, Entries, Ranges}
-use Rattle.build_leader.specs.Entries.{array_of, row_entries, rows_entries}
+use Rattle.build_leader.specs.declared.brin.ranges.RangeTally.{RangeTally}
+use Rattle.build_leader.specs.declared.scan.sink.Sink.{Sink}
+use Rattle.build_leader.specs.declared.scan.sink.Sink.TheVariants.{Rows, Entries, Ranges}
+use Rattle.build_leader.specs.declared.scan.width.WidthCause.{WidthCause}
+use Rattle.build_leader.specs.declared.scan.width.WidthCause.TheVariants as width
+use Rattle.build_leader.specs.Entries.{HasWideEntry, array_of, row_entries, rows_entries}
 use Rattle.build_leader.specs.Holding.{CanTake, Held, HoldBy, HoldRows, IsTakeable, IsTakeableBy, Suits, TakesInto, held_by}
+use Rattle.build_leader.specs.IndexRow.{AreTooWide, most_tuple}
 use Rattle.build_leader.specs.Ranges.{HoldRanges}
+use Rattle.build_leader.specs.Reader.{IsEntryFault, IsTupleFault, IsWidthFault}
 use Rattle.build_leader.proofs.EntryRows.{entries_append}
 
 -- ---- what is held by a method that is known
@@ -101,3 +109,73 @@ can_take spec (Rows spool) row suits takeable =
 can_take spec (Entries gather) row suits takeable = takeable_as spec Gin row suits.1.0 takeable
 can_take spec (Ranges tally) row suits takeable =
     (suits.1.1, takeable_as spec Brin row suits.1.0 takeable ∙ sym suits.1.3, suits.1.4)
+
+-- ---- values that are too large for it
+
+module _ (kinds : List ColType) (values : List KeyVal) (sink : Sink) where
+  -- a tuple of a B-tree, whose rows the sink takes
+  pub tuple_too_wide : (spool : SpoolView) → sink ≡ Rows spool → (fault : RowFault) → IsTupleFault kinds values fault
+      → (spec : IndexSpec) → Suits spec sink → IsWidthFault spec kinds values fault
+  tuple_too_wide spool is fault wide spec suits =
+      let suited : Suits spec (Rows spool) = subst (Suits spec) is suits in
+      subst (IsWidthFault spec kinds values) (sym wide.0) (width.Tuple, (suited.1.0, wide.1), refl)
+
+  pub tuple_fits : (spool : SpoolView) → sink ≡ Rows spool → size_of kinds values ≤ most_tuple
+      → (spec : IndexSpec) → Suits spec sink → (cause : WidthCause) → AreTooWide cause spec kinds values → ⊥
+  tuple_fits spool is fits spec suits width.Tuple wide = let more = wide.1 in omega arith
+  tuple_fits spool is fits spec suits width.Entry wide =
+      let suited : Suits spec (Rows spool) = subst (Suits spec) is suits in
+      let tree : spec.method ≡ BTree = suited.1.0 in
+      let gin : spec.method ≡ Gin = wide.0 in
+      cc
+
+  -- an entry of a GIN index, whose entries it takes
+  pub entry_too_wide : (gather : GatherView) → sink ≡ Entries gather → (fault : RowFault) → IsEntryFault kinds values fault
+      → (spec : IndexSpec) → Suits spec sink → IsWidthFault spec kinds values fault
+  entry_too_wide gather is (Value number) wide spec suits =
+      let suited : Suits spec (Entries gather) = subst (Suits spec) is suits in
+      (width.Entry, (suited.1.0, wide.0), wide.1)
+  entry_too_wide gather is Memory wide spec suits = tt
+
+  pub entries_fit : (gather : GatherView) → sink ≡ Entries gather → (HasWideEntry kinds values → ⊥)
+      → (spec : IndexSpec) → Suits spec sink → (cause : WidthCause) → AreTooWide cause spec kinds values → ⊥
+  entries_fit gather is fit spec suits width.Entry wide = fit wide.1
+  entries_fit gather is fit spec suits width.Tuple wide =
+      let suited : Suits spec (Entries gather) = subst (Suits spec) is suits in
+      let gin : spec.method ≡ Gin = suited.1.0 in
+      let tree : spec.method ≡ BTree = wide.0 in
+      cc
+
+  -- nothing of a row of a BRIN index is
+  pub ranges_fit : (tally : RangeTally) → sink ≡ Ranges tally
+      → (spec : IndexSpec) → Suits spec sink → (cause : WidthCause) → AreTooWide cause spec kinds values → ⊥
+  ranges_fit tally is spec suits width.Tuple wide =
+      let suited : Suits spec (Ranges tally) = subst (Suits spec) is suits in
+      let brin : spec.method ≡ Brin = suited.1.0 in
+      let tree : spec.method ≡ BTree = wide.0 in
+      cc
+  ranges_fit tally is spec suits width.Entry wide =
+      let suited : Suits spec (Ranges tally) = subst (Suits spec) is suits in
+      let brin : spec.method ≡ Brin = suited.1.0 in
+      let gin : spec.method ≡ Gin = wide.0 in
+      cc
+
+-- ---- whether it takes arrays
+
+pub takes_entries : (sink : Sink) (gather : GatherView) → sink ≡ Entries gather → (spec : IndexSpec) → Suits spec sink
+    → spec.method ≡ Gin
+takes_entries sink gather is spec suits = (subst (Suits spec) is suits).1.0
+
+pub takes_rows : (sink : Sink) (spool : SpoolView) → sink ≡ Rows spool → (spec : IndexSpec) → Suits spec sink
+    → spec.method ≢ Gin
+takes_rows sink spool is spec suits gin =
+    let suited : Suits spec (Rows spool) = subst (Suits spec) is suits in
+    let tree : spec.method ≡ BTree = suited.1.0 in
+    cc
+
+pub takes_ranges : (sink : Sink) (tally : RangeTally) → sink ≡ Ranges tally → (spec : IndexSpec) → Suits spec sink
+    → spec.method ≢ Gin
+takes_ranges sink tally is spec suits gin =
+    let suited : Suits spec (Ranges tally) = subst (Suits spec) is suits in
+    let brin : spec.method ≡ Brin = suited.1.0 in
+    cc

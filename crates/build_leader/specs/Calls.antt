@@ -15,7 +15,7 @@ use Rattle.build_leader.specs.declared.fault.LeadFault.{LeadFault}
 use Rattle.build_leader.specs.declared.fault.LeadFault.TheVariants as lead
 use Rattle.build_leader.specs.declared.plan.Plan.{Plan}
 use Rattle.brin_summary.specs.declared.ranges.SummedRange.{SummedRange}
-use Rattle.build_leader.specs.declared.scanned.Scanned.{Scanned}
+use Rattle.build_leader.specs.declared.scan.scanned.Scanned.{Scanned}
 use Rattle.build_leader.specs.Blocks.{IsHeapFile}
 use Rattle.build_leader.specs.Claimed.{AreClaimedRows}
 use Rattle.build_leader.specs.HeapRows.{AreHeapRows, HasSoundBlocks}

@@ -14,8 +14,8 @@ use Rattle.shared_tape.specs.Stored.{IsStorable}
 use Rattle.spool.specs.Gathers.{AreStorableEntries}
 use Rattle.run_merge.specs.Sorted.{all_records}
 use Rattle.brin_summary.specs.declared.ranges.SummedRange.{SummedRange}
-use Rattle.build_leader.specs.declared.sink.Sink.{Sink}
-use Rattle.build_leader.specs.declared.sink.Sink.TheVariants.{Rows, Entries, Ranges}
+use Rattle.build_leader.specs.declared.scan.sink.Sink.{Sink}
+use Rattle.build_leader.specs.declared.scan.sink.Sink.TheVariants.{Rows, Entries, Ranges}
 use Rattle.build_leader.specs.Entries.{array_of, rows_entries}
 use Rattle.build_leader.specs.Outcome.{order_of_index}
 use Rattle.build_leader.specs.Ranges.{HoldRanges}

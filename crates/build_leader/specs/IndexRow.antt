@@ -16,8 +16,8 @@ use Rattle.heap_row.specs.Fault.{number_of_row_cause}
 use Rattle.heap_row.specs.Tuple.{tuple_of}
 use Rattle.shared_tape.specs.declared.stored.Record.{Record}
 use Rattle.btree_item.specs.Tuple.{size_of}
-use Rattle.build_leader.specs.declared.width.WidthCause.{WidthCause}
-use Rattle.build_leader.specs.declared.width.WidthCause.TheVariants as width
+use Rattle.build_leader.specs.declared.scan.width.WidthCause.{WidthCause}
+use Rattle.build_leader.specs.declared.scan.width.WidthCause.TheVariants as width
 use Rattle.build_leader.specs.Entries.{HasWideEntry}
 
 -- the columns that the index needs, each once, ascending

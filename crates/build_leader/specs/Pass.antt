@@ -16,12 +16,12 @@ use Rattle.build_leader.specs.declared.fault.LeadFault.TheVariants as lead
 use Rattle.build_leader.specs.Unique.{Clash, IsFirstClash, NoneClash}
 
 -- a record is a row of an index with columns of these types
-abbrev pub IsIndexRow : IndexSpec → List ColType → Record → Type 0
-IsIndexRow spec kinds row = IsRowOf kinds (length spec.keys) (row_of row)
+abbrev pub IsTypedRow : IndexSpec → List ColType → Record → Type 0
+IsTypedRow spec kinds row = IsRowOf kinds (length spec.keys) (row_of row)
 
 -- and so are all of these
 abbrev pub AreRowsOf : IndexSpec → List ColType → List Record → Type 0
-AreRowsOf spec kinds records = All (IsIndexRow spec kinds) records
+AreRowsOf spec kinds records = All (IsTypedRow spec kinds) records
 
 -- a unique index has no neighbours that clash
 abbrev pub KeepsUnique : IndexSpec → List Record → Type 0
@@ -54,16 +54,16 @@ pub record IsWrittenRun (spec : IndexSpec) (kinds : List ColType) (order : List 
   pub leaves : AreLeavesOf spec kinds (map row_of sorted) run
 
 -- Runs of leaf tuples are of rows, one behind the other from some on, and rows of one key stand in one run.
-abbrev pub HoldRows : IndexSpec → List ColType → List Row → List RunView → List Row → Type 0
-HoldRows spec kinds before [] rows = rows ≡ before
-HoldRows spec kinds before (run ∷ runs) rows =
+abbrev pub HoldLeafRows : IndexSpec → List ColType → List Row → List RunView → List Row → Type 0
+HoldLeafRows spec kinds before [] rows = rows ≡ before
+HoldLeafRows spec kinds before (run ∷ runs) rows =
     (more : List Row) × AreLeavesOf spec kinds more run × KeysPart before more
-    × HoldRows spec kinds (before ++ more) runs rows
+    × HoldLeafRows spec kinds (before ++ more) runs rows
 
 -- a file is that of the rows that runs of leaf tuples hold
 abbrev pub IsFileOfRuns : IndexSpec → List ColType → List RunView → List ℕ → Type 0
 IsFileOfRuns spec kinds runs file =
-    (rows : List Row) → HoldRows spec kinds [] runs rows
+    (rows : List Row) → HoldLeafRows spec kinds [] runs rows
     → file ≡ btree_file (images_of kinds (length spec.keys)) spec rows
 
 -- a file is that of these records in their order, which keeps the unique rule
@@ -83,8 +83,8 @@ IsPackFault spec order whole (lead.RangeWide range size) = ⊥
 IsPackFault spec order whole lead.Memory = ⊤
 
 -- a packer has one row more, whatever was put before
-abbrev pub TakesRow : {P : Type 0} → (IndexSpec → List ColType → List Row → P → Type 0) → P → Record → P → Type 0
-TakesRow has old row new =
+abbrev pub PutsRow : {P : Type 0} → (IndexSpec → List ColType → List Row → P → Type 0) → P → Record → P → Type 0
+PutsRow has old row new =
     (spec : IndexSpec) (kinds : List ColType) (rows : List Row)
     → has spec kinds rows old → has spec kinds (rows ++ row_of row ∷ []) new
 

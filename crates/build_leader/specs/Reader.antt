@@ -1,5 +1,5 @@
 -- What the rows of an index are read by, and what is read of a live item.
-use Rattle.std.specs.Prelude.{◌≡◌, ⊤, IsTrue, ℕ, Bool, true, false, List, map, Some, Ok, slice_get}
+use Rattle.std.specs.Prelude.{◌≡◌, ◌<◌, ⊤, IsTrue, ℕ, Bool, true, false, List, map, Some, Ok, slice_get}
 use Rattle.pg_bytes.specs.declared.row_ptr.RowPtr.{RowPtr}
 use Rattle.pg_bytes.specs.PageLayout.{page_size}
 use Rattle.opclass.specs.declared.spec.IndexSpec.{IndexSpec}
@@ -14,10 +14,12 @@ use Rattle.heap_row.specs.Attribute.{values_of}
 use Rattle.heap_row.specs.Tuple.{tuple_of}
 use Rattle.heap_row.specs.Typed.{AreReadOf}
 use Rattle.shared_tape.specs.declared.stored.Record.{Record}
-use Rattle.build_leader.specs.declared.row_reader.RowReader.TheInside.{Inside}
-use Rattle.build_leader.specs.declared.width.WidthCause.{WidthCause}
+use Rattle.build_leader.specs.declared.scan.row_reader.RowReader.TheInside.{Inside}
+use Rattle.btree_item.specs.Tuple.{size_of}
+use Rattle.build_leader.specs.declared.scan.width.WidthCause.{WidthCause}
+use Rattle.build_leader.specs.declared.scan.width.WidthCause.TheVariants as width
 use Rattle.build_leader.specs.Entries.{HasWideEntry}
-use Rattle.build_leader.specs.IndexRow.{AreTooWide, AreValuesOf, HasIndexValues, HasItemFault, IsLeftOut, ItemCause, index_columns, index_kinds, needed_of, number_of_item_cause, number_of_width_cause}
+use Rattle.build_leader.specs.IndexRow.{AreTooWide, AreValuesOf, HasIndexValues, HasItemFault, IsLeftOut, ItemCause, index_columns, index_kinds, most_tuple, needed_of, number_of_item_cause, number_of_width_cause}
 use Rattle.build_leader.specs.Holding.{IsTakeable}
 
 -- a reader of the rows of an index over a table
@@ -97,6 +99,10 @@ abbrev pub IsWidthFault : IndexSpec → List ColType → List KeyVal → RowFaul
 IsWidthFault spec kinds values (fault.Value number) =
     (cause : WidthCause) × AreTooWide cause spec kinds values × (number ≡ number_of_width_cause cause)
 IsWidthFault spec kinds values fault.Memory = ⊤
+
+-- why values are refused: their tuple is too large for a B-tree
+abbrev pub IsTupleFault : List ColType → List KeyVal → RowFault → Type 0
+IsTupleFault kinds values fault = (fault ≡ fault_of_width width.Tuple) × (most_tuple < size_of kinds values)
 
 -- why the value of an array is refused: it has an entry that is too large, or want of memory
 abbrev pub IsEntryFault : List ColType → List KeyVal → RowFault → Type 0

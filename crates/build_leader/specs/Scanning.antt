@@ -11,12 +11,12 @@ use Rattle.block_claim.specs.Calls.{ClaimsAreLegal, IsSeatOf, NoReportIsMissed, 
 use Rattle.block_claim.specs.Views.{least_of, unreported}
 use Rattle.heap_row.specs.declared.fault.RowFault.TheVariants as fault
 use Rattle.shared_tape.specs.declared.stored.Record.{Record}
-use Rattle.build_leader.specs.declared.block.BlockError.{BlockError}
-use Rattle.build_leader.specs.declared.block.BlockError.TheVariants as error
-use Rattle.build_leader.specs.declared.row_slot.RowSlot.{RowSlot}
-use Rattle.build_leader.specs.declared.sink.Sink.{Sink}
-use Rattle.build_leader.specs.declared.worker.BlockFault.{BlockFault}
-use Rattle.build_leader.specs.declared.worker.Share.{Share}
+use Rattle.build_leader.specs.declared.scan.block.BlockError.{BlockError}
+use Rattle.build_leader.specs.declared.scan.block.BlockError.TheVariants as error
+use Rattle.build_leader.specs.declared.scan.row_slot.RowSlot.{RowSlot}
+use Rattle.build_leader.specs.declared.scan.sink.Sink.{Sink}
+use Rattle.build_leader.specs.declared.scan.worker.BlockFault.{BlockFault}
+use Rattle.build_leader.specs.declared.scan.worker.Share.{Share}
 use Rattle.build_leader.specs.Blocks.{IsHeapFile}
 use Rattle.build_leader.specs.Claimed.{claimed_blocks}
 use Rattle.build_leader.specs.HeapRows.{AreRowsOfBlocks, IsBlockFault, IsSoundBlock}

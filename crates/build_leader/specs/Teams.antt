@@ -14,10 +14,10 @@ use Rattle.spool.specs.Spools.{AreBoundedRuns}
 use Rattle.build_leader.specs.declared.fault.LeadFault.{LeadFault}
 use Rattle.build_leader.specs.declared.fault.LeadFault.TheVariants as lead
 use Rattle.build_leader.specs.declared.plan.Plan.{Plan}
-use Rattle.build_leader.specs.declared.scanned.Scanned.{Scanned}
-use Rattle.build_leader.specs.declared.team.Team.{Team}
-use Rattle.build_leader.specs.declared.worker.BlockFault.{BlockFault}
-use Rattle.build_leader.specs.declared.worker.Share.{Share}
+use Rattle.build_leader.specs.declared.scan.scanned.Scanned.{Scanned}
+use Rattle.build_leader.specs.declared.scan.team.Team.{Team}
+use Rattle.build_leader.specs.declared.scan.worker.BlockFault.{BlockFault}
+use Rattle.build_leader.specs.declared.scan.worker.Share.{Share}
 use Rattle.build_leader.specs.Calls.{ArePartsFrom}
 use Rattle.build_leader.specs.Claimed.{claimed_blocks}
 use Rattle.build_leader.specs.Holding.{IsSinkOf, held_by, held_on, order_by}

@@ -72,46 +72,31 @@
 //!   a GIN index 2^30 pairs or blocks, `build` ends as if there were too little.
 #![tactic(auto)]
 
-mod block;
 mod brin;
+mod btree;
 mod built;
 mod columns;
-mod entry_laws;
 mod fault;
 mod gate;
 mod gin;
 mod key_parts;
 mod laws;
 mod leader;
-mod leaf_parts;
-mod packing;
 mod plan;
-mod posting_parts;
-mod ranges;
-mod refill;
-mod row_reader;
-mod row_slot;
 mod scan;
-mod scanned;
-mod sink;
 mod taken;
-mod team;
-mod wide_entry;
-mod width;
-mod worker;
 
 pub use built::Built;
-pub use entry_laws::{
+pub use fault::LeadFault;
+pub use gate::{Gate, NoGate};
+pub use gin::{
     elements_lead_to_their_rows, empty_arrays_lead_to_their_rows, nulls_lead_to_their_rows,
     postings_point_to_rows,
 };
-pub use fault::LeadFault;
-pub use gate::{Gate, NoGate};
 pub use laws::{
     build_outcome_is_determined, claims_share_the_rows, heap_rows_are_determined,
     neighbours_tell_of_clashes,
 };
 pub use leader::build;
 pub use plan::Plan;
-pub use scan::scan_heap;
-pub use scanned::Scanned;
+pub use scan::{Scanned, scan_heap};

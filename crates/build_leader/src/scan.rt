@@ -1,14 +1,27 @@
+//! The scan of a heap by a leader and its workers.
+
 ghost use Rattle.std.specs.Prelude.{IfErr, IfOk};
 ghost use Rattle.build_leader.specs.Calls.{IsOpenedFor, IsPlan, IsScanFault, IsScanned};
+
+mod block;
+mod refill;
+mod row_reader;
+mod row_slot;
+mod scanned;
+mod sink;
+mod team;
+mod width;
+mod worker;
 
 use crate::fault::LeadFault;
 use crate::gate::Gate;
 use crate::plan::Plan;
-use crate::scanned::Scanned;
-use crate::team::scan_team;
 use block_claim::{Scan, ScanSeat};
+pub use scanned::Scanned;
 use std::alloc::Global;
 use std::thread::Threads;
+use team::scan_team;
+pub(crate) use width::{WidthCause, refusal};
 
 /// Scans a heap with as many threads as there are seats: each worker claims blocks until none is
 /// left, and puts the rows of an index in them, or their entries, onto a tape of its own in sorted

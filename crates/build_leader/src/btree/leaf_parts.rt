@@ -7,12 +7,12 @@ ghost use Rattle.btree_pack.specs.Pass.Put.{AreColumnsOf};
 ghost use Rattle.shared_tape.specs.Stored.{IsStorable};
 ghost use Rattle.run_merge.specs.Sorted.{AllHaveOrder, all_records};
 ghost use Rattle.build_leader.specs.IndexRow.{index_kinds};
-ghost use Rattle.build_leader.specs.Pass.{AreRowsOf, IsFileOfRuns, HoldRows, IsPackFault, IsPackedFile, IsWrittenRun};
+ghost use Rattle.build_leader.specs.Pass.{AreRowsOf, IsFileOfRuns, HoldLeafRows, IsPackFault, IsPackedFile, IsWrittenRun};
 
+use crate::btree::packing::{pack, write_leaves};
 use crate::columns::kinds_of;
 use crate::fault::LeadFault;
 use crate::key_parts::{PartWork, make_parts};
-use crate::packing::{pack, write_leaves};
 use crate::plan::Plan;
 use btree_pack::{LeafRun, RunPacker};
 use opclass::SortSpec;
@@ -127,7 +127,7 @@ fn pack_parts<Rt: Threads + Sync>(
 // Lays the runs of leaf tuples on pages, one run behind the other.
 fn lay(alloc: Global, plan: &Plan, runs: Vec<LeafRun>) -> Result<IndexImage, AllocError>
     requires columns { AreColumnsOf plan.now.spec (index_kinds plan.now.table plan.now.spec) }
-    requires runs { (rows : List Row) × HoldRows plan.now.spec
+    requires runs { (rows : List Row) × HoldLeafRows plan.now.spec
         (index_kinds plan.now.table plan.now.spec) [] runs.items rows }
     ensures { IfOk result (IsFileOfRuns plan.now.spec
         (index_kinds plan.now.table plan.now.spec) runs.items) }

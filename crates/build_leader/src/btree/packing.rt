@@ -6,7 +6,7 @@ ghost use Rattle.btree_pack.specs.Groups.{Row};
 ghost use Rattle.btree_pack.specs.Pass.Put.{AreColumnsOf, HasPut, Takes};
 ghost use Rattle.btree_pack.specs.Pass.Taken.{row_of};
 ghost use Rattle.btree_pack.specs.Pass.Written.{HasWritten, WritesRow};
-ghost use Rattle.build_leader.specs.Pass.{AreRowsOf, IsClash, IsPackFault, IsPackedFile, IsWrittenRun, TakesRow, TakesRowsOf, WerePut};
+ghost use Rattle.build_leader.specs.Pass.{AreRowsOf, IsClash, IsPackFault, IsPackedFile, IsWrittenRun, PutsRow, TakesRowsOf, WerePut};
 ghost use Rattle.build_leader.specs.Unique.{Clash};
 
 use crate::fault::LeadFault;
@@ -32,7 +32,7 @@ trait RowPacker {
     /// Puts a row behind the others.
     fn put(&mut self, row: &mut Record) -> Result<(), AllocError>
         requires { takes self.old (row_of row.old) }
-        ensures { OnOk result (TakesRow has self.old row.old self.new) };
+        ensures { OnOk result (PutsRow has self.old row.old self.new) };
 
     /// Rows of the index can be put.
     ghost takes_rows: { TakesRowsOf has takes };
@@ -135,7 +135,7 @@ fn put_before<P: RowPacker>(
     next: &Record,
 ) -> Result<(), LeadFault>
     requires { P.takes packer.old (row_of held.old) }
-    ensures put { OnOk result (TakesRow P.has packer.old held.old packer.new) }
+    ensures put { OnOk result (PutsRow P.has packer.old held.old packer.new) }
     ensures apart { OnOk result (IsTrue spec.now.unique → Clash spec.now held.old next.now → ⊥) }
     ensures refused { IfErr result (IsClash spec.now held.old next.now) }
 {

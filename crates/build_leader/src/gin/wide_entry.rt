@@ -1,6 +1,6 @@
-//! Whether a row of an array has an entry that is too large (`GinFormTuple` of `ginentrypage.c`).
+//! Which rows of an array have an entry that is too large (`GinFormTuple` of `ginentrypage.c`).
 
-ghost use Rattle.std.specs.Prelude.{◌≡◌, ◌↔◌, ◌<◌, [], ◌∷◌, All, Any, IfOk, IsTrue};
+ghost use Rattle.std.specs.Prelude.{◌≡◌, ◌↔◌, ◌<◌, [], ◌∷◌, All, Any, IfErr, IfOk, IsTrue, OnOk};
 ghost use Rattle.std.specs.List.{AllZip};
 ghost use Rattle.pg_bytes.specs.PageLayout.{page_size};
 ghost use Rattle.opclass.specs.Values.{IsValueOf};
@@ -9,9 +9,12 @@ ghost use Rattle.gin_entry.specs.Entries.{entry_of};
 ghost use Rattle.gin_entry.specs.EntrySize.{entry_size};
 ghost use Rattle.gin_file.specs.EntryTuple.{most_size};
 ghost use Rattle.build_leader.specs.Entries.{HasWideEntry};
+ghost use Rattle.build_leader.specs.Reader.{IsEntryFault};
 ghost use Rattle.build_leader.specs.WideEntry.{HasTexts};
 
+use crate::scan::{WidthCause, refusal};
 use gin_entry::{Entry, entry_size};
+use heap_row::RowFault;
 use opclass::{ColType, Elem, Form, KeyList, KeyVal, Kinds, Width};
 use std::alloc::{AllocError, Global};
 
@@ -23,13 +26,23 @@ const MOST_SIZE: u64 = 2712;
 /// zeros between take 36 bytes at most.
 const SHORT_TEXT: usize = 2676;
 
-/// Whether an entry of the one value of a row is too large. Only a long text can make it so, and no
-/// other element is copied. An error means that no memory was left.
-pub(crate) fn has_wide_entry(
-    alloc: Global,
-    kinds: &Kinds,
-    values: &KeyList,
-) -> Result<bool, AllocError>
+/// Refuses the value of a row that has an entry that is too large.
+pub(crate) fn check_entries(alloc: Global, kinds: &Kinds, values: &KeyList) -> Result<(), RowFault>
+    requires typed { AllZip IsValueOf kinds.now values.now }
+    requires short { All (HasAtMost page_size) values.now }
+    ensures refused { IfErr result (IsEntryFault kinds.now values.now) }
+    ensures narrow { OnOk result (HasWideEntry kinds.now values.now → ⊥) }
+{
+    match has_wide_entry(alloc, kinds, values) {
+        Ok(false) => Ok(()),
+        Ok(true) => Err(refusal(WidthCause::Entry)),
+        Err(_) => Err(RowFault::Memory),
+    }
+}
+
+// Whether an entry of the one value of a row is too large. Only a long text can make it so, and no
+// other element is copied. An error means that no memory was left.
+fn has_wide_entry(alloc: Global, kinds: &Kinds, values: &KeyList) -> Result<bool, AllocError>
     requires typed { AllZip IsValueOf kinds.now values.now }
     requires short { All (HasAtMost page_size) values.now }
     ensures { IfOk result (λ wide. IsTrue wide ↔ HasWideEntry kinds.now values.now) }

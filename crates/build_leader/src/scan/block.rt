@@ -11,9 +11,9 @@ ghost use Rattle.build_leader.specs.Holding.{StaysSuited, Suits};
 ghost use Rattle.build_leader.specs.Reader.{IsSoundItem};
 ghost use Rattle.build_leader.specs.Scanning.{IsPageError, IsRowError, TakesPage, TakesRow, TakesRows, error_of_chains};
 
-use crate::row_reader::RowReader;
-use crate::row_slot::RowSlot;
-use crate::sink::Sink;
+use crate::scan::row_reader::RowReader;
+use crate::scan::row_slot::RowSlot;
+use crate::scan::sink::Sink;
 use heap_page::{PageFault, View, check_page};
 use heap_row::RowFault;
 use hot_chain::{RootFault, Roots, find_roots};
@@ -22,7 +22,7 @@ use std::alloc::Global;
 
 /// Why a block's rows weren't taken: its fault, by the item and the number of the cause, or want of
 /// memory. Item 0 stands for the page.
-#[derive(Clone, Copy, PartialEq, Eq)]
+#[derive(Clone, Copy)]
 pub(crate) enum BlockError {
     Fault { item: u16, cause: u8 },
     Memory,
@@ -156,7 +156,7 @@ fn add_row(
         (record { item = item; root = ptr.offset }) sink.old put sink.new) }
     ensures same { StaysSuited sink.old sink.new }
 {
-    match reader.read(alloc, view, item, ptr, slot) {
+    match reader.read(alloc, view, item, ptr, sink, slot) {
         Ok(true) => match sink.put(&slot.record) {
             Ok(()) => Ok(true),
             Err(_) => Err(BlockError::Memory),

@@ -5,17 +5,18 @@ ghost use Rattle.pg_bytes.specs.PageLayout.{page_size};
 ghost use Rattle.hot_chain.specs.Roots.{IsLive};
 ghost use Rattle.opclass.specs.Norm.{IsKeyValue};
 ghost use Rattle.build_leader.specs.Calls.{IsPlan};
+ghost use Rattle.build_leader.specs.Holding.{Suits};
 ghost use Rattle.build_leader.specs.IndexRow.{index_columns};
 ghost use Rattle.build_leader.specs.Reader.{AreAt, AreNeededOrLeft, AreReadOrLeft, IsItemFault, IsReadOrLeft, IsSoundItem};
 
 use crate::columns::kinds_of;
 use crate::plan::Plan;
-use crate::refill::{copy_values, move_last, move_value};
-use crate::row_slot::RowSlot;
-use crate::width::check_width;
+use crate::scan::refill::{copy_values, move_last, move_value};
+use crate::scan::row_slot::RowSlot;
+use crate::scan::sink::Sink;
 use heap_page::View;
 use heap_row::{RowFault, read_values_into};
-use opclass::{Columns, IndexSpec, KeyList, Kinds, Method, Table, keeps, needed};
+use opclass::{Columns, IndexSpec, KeyList, Kinds, Table, keeps, needed};
 use pg_bytes::RowPtr;
 use std::alloc::{AllocError, Global};
 use std::marker::Model;
@@ -71,18 +72,20 @@ impl<'a> RowReader<'a> {
         self.table.columns.len() as u16
     }
 
-    /// Reads the record of a live item into a slot, with this pointer, and answers whether WHERE
-    /// keeps the item: of one that it leaves out the slot tells nothing. A value that can't be read
-    /// is a fault, and so are values that are too large for the index, which is asked of a row that
-    /// WHERE keeps.
+    /// Reads the record of a live item into a slot, for a sink and with this pointer, and answers
+    /// whether WHERE keeps the item: of one that it leaves out the slot tells nothing. A value that
+    /// can't be read is a fault, and so are values that are too large for the index, which is asked
+    /// of a row that WHERE keeps.
     pub fn read(
         &self,
         alloc: Global,
         view: &View,
         item: u16,
         ptr: RowPtr,
+        sink: &Sink,
         slot: &mut RowSlot,
     ) -> Result<bool, RowFault>
+        requires suits { Suits self.now.spec sink.now }
         requires live { IsLive view.now.bytes item }
         requires columns { view.now.columns ≡ length self.now.table.columns }
         requires size { length view.now.bytes ≡ page_size }
@@ -98,10 +101,10 @@ impl<'a> RowReader<'a> {
         // All columns are read as one list, in which each finds the memory of the row before.
         let extra = record.extra.len();
         move_last(&mut record.extra, extra, &mut record.keys)?;
-        if !self.read_columns(alloc, view, item, values, &mut record.keys)? {
+        if !self.read_columns(alloc, view, item, sink, values, &mut record.keys)? {
             return Ok(false);
         }
-        check_width(alloc, self.spec, &self.kinds, &record.keys)?;
+        sink.check_width(alloc, &self.kinds, &record.keys)?;
         let includes = self.spec.includes.len();
         move_last(&mut record.keys, includes, &mut record.extra)?;
         record.ptr = ptr;
@@ -115,9 +118,11 @@ impl<'a> RowReader<'a> {
         alloc: Global,
         view: &View,
         item: u16,
+        sink: &Sink,
         values: &mut KeyList,
         picked: &mut KeyList,
     ) -> Result<bool, RowFault>
+        requires suits { Suits self.now.spec sink.now }
         requires live { IsLive view.now.bytes item }
         requires columns { view.now.columns ≡ length self.now.table.columns }
         requires size { length view.now.bytes ≡ page_size }
@@ -132,9 +137,10 @@ impl<'a> RowReader<'a> {
         if !self.read_needed(alloc, view, item, values)? {
             return Ok(false);
         }
-        match self.spec.method {
-            Method::Gin => move_value(values, self.places[0], picked)?,
-            Method::BTree | Method::Brin => copy_values(alloc, values, &self.places, picked)?,
+        if sink.takes_arrays() {
+            move_value(values, self.places[0], picked)?;
+        } else {
+            copy_values(alloc, values, &self.places, picked)?;
         }
         Ok(true)
     }

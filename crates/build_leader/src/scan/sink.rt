@@ -1,20 +1,32 @@
 //! What a worker's rows go into, by the index's method.
 
-ghost use Rattle.std.specs.Prelude.{◌≡◌, ◌≤◌, ◌∷◌, ◌++◌, [], IfOk, OnOk, length, List, ℕ};
+ghost use Rattle.std.specs.Prelude.{◌≡◌, ◌≢◌, ◌<◌, ◌≤◌, ◌^◌, ◌∷◌, ◌++◌, [], All, IfErr, IfOk, IsTrue, OnOk, false, length, List, ℕ};
 ghost use Rattle.std.specs.List.Sorted.{IsPermutation};
+ghost use Rattle.std.specs.List.{AllZip};
+ghost use Rattle.pg_bytes.specs.PageLayout.{page_size};
 ghost use Rattle.opclass.specs.declared.spec.IndexSpec.{IndexSpec};
+ghost use Rattle.opclass.specs.declared.types.Method.TheVariants as method;
+ghost use Rattle.opclass.specs.Values.{IsValueOf};
+ghost use Rattle.heap_row.specs.Typed.{HasAtMost};
+ghost use Rattle.btree_item.specs.Tuple.{size_of};
 ghost use Rattle.shared_tape.specs.Runs.{records_of};
 ghost use Rattle.shared_tape.specs.declared.stored.Record.{Record};
 ghost use Rattle.shared_tape.specs.Stored.{IsStorable};
 ghost use Rattle.spool.specs.Spools.{AreBoundedRuns, TakesRecord};
 ghost use Rattle.build_leader.specs.Calls.{IsPlan};
 ghost use Rattle.build_leader.specs.Holding.{CanTake, IsSinkOf, StaysSuited, Suits, TakesInto, held_by, order_by};
+ghost use Rattle.build_leader.specs.IndexRow.{AreTooWide};
+ghost use Rattle.build_leader.specs.Reader.{IsWidthFault};
+ghost use Rattle.build_leader.specs.declared.scan.width.WidthCause.{WidthCause};
 
+use crate::brin::RangeTally;
+use crate::btree::check_tuple;
 use crate::columns::order_of;
+use crate::gin::check_entries;
 use crate::plan::Plan;
-use crate::ranges::RangeTally;
 use brin_summary::SummedRanges;
-use opclass::Method;
+use heap_row::RowFault;
+use opclass::{KeyList, Kinds, Method};
 use pg_bytes::Items;
 use shared_tape::{Record, Tape};
 use spool::{Gather, Spool};
@@ -44,6 +56,38 @@ impl Sink {
             }
             Method::Gin => Ok(Sink::Entries(Gather::new(alloc, plan.run_rows))),
             Method::Brin => Ok(Sink::Ranges(RangeTally::new(alloc, &plan.spec))),
+        }
+    }
+
+    /// Whether a row's value is an array, which is moved where others are copied.
+    pub fn takes_arrays(&self) -> bool
+        ensures arrays { IsTrue result → (spec : IndexSpec) → Suits spec self.now
+            → spec.method ≡ method.Gin }
+        ensures keys { result ≡ false → (spec : IndexSpec) → Suits spec self.now
+            → spec.method ≢ method.Gin }
+    {
+        matches!(self, Sink::Entries(_))
+    }
+
+    /// Refuses the values of a row's columns that are too large for the index.
+    pub fn check_width(
+        &self,
+        alloc: Global,
+        kinds: &Kinds,
+        values: &KeyList,
+    ) -> Result<(), RowFault>
+        requires size { size_of kinds.now values.now < 2 ^ 63 }
+        requires typed { AllZip IsValueOf kinds.now values.now }
+        requires short { All (HasAtMost page_size) values.now }
+        ensures refused { IfErr result (λ fault. (spec : IndexSpec) → Suits spec self.now
+            → IsWidthFault spec kinds.now values.now fault) }
+        ensures narrow { OnOk result ((spec : IndexSpec) → Suits spec self.now
+            → (cause : WidthCause) → AreTooWide cause spec kinds.now values.now → ⊥) }
+    {
+        match self {
+            Sink::Rows(_) => check_tuple(kinds, values),
+            Sink::Entries(_) => check_entries(alloc, kinds, values),
+            Sink::Ranges(_) => Ok(()),
         }
     }
 

@@ -11,11 +11,11 @@ ghost use Rattle.build_leader.specs.Teams.{AreFreshSeats, HandsOver, IsAlone, Is
 use crate::fault::LeadFault;
 use crate::gate::Gate;
 use crate::plan::Plan;
-use crate::row_reader::RowReader;
-use crate::row_slot::RowSlot;
-use crate::scanned::Scanned;
-use crate::sink::Sink;
-use crate::worker::{BlockFault, Share, scan_share};
+use crate::scan::row_reader::RowReader;
+use crate::scan::row_slot::RowSlot;
+use crate::scan::scanned::Scanned;
+use crate::scan::sink::Sink;
+use crate::scan::worker::{BlockFault, Share, scan_share};
 use block_claim::{Scan, ScanSeat};
 use brin_summary::RangeParts;
 use pg_bytes::Items;

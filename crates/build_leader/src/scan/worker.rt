@@ -7,17 +7,17 @@ ghost use Rattle.pg_bytes.specs.Blocks.{block_at, block_count};
 ghost use Rattle.block_claim.specs.Calls.{is_done};
 ghost use Rattle.build_leader.specs.Scanning.{IsBetweenClaims, IsOneClaimMore, IsSameWorker, IsScanOf, IsWorker, TakesBlocks, begun_with};
 
-use crate::block::{BlockError, scan_block};
 use crate::gate::Gate;
-use crate::row_reader::RowReader;
-use crate::row_slot::RowSlot;
-use crate::sink::Sink;
+use crate::scan::block::{BlockError, scan_block};
+use crate::scan::row_reader::RowReader;
+use crate::scan::row_slot::RowSlot;
+use crate::scan::sink::Sink;
 use block_claim::{Scan, ScanSeat};
 use pg_bytes::{PAGE, Page};
 use std::alloc::{AllocError, Global};
 
 /// The fault of a block of the heap.
-#[derive(Clone, Copy, PartialEq, Eq)]
+#[derive(Clone, Copy)]
 pub(crate) struct BlockFault {
     pub block: u32,
     pub item: u16,

@@ -4,7 +4,7 @@ use Rattle.opclass.specs.declared.types.ColType.{ColType}
 use Rattle.run_merge.specs.Sorted.{all_records}
 use Rattle.build_leader.specs.IndexRow.{index_kinds}
 use Rattle.build_leader.specs.Gin.{AreEntries, CountsRecords, IsEntryFile}
-use Rattle.build_leader.proofs.taken.pack_postings.Goals as goal
+use Rattle.build_leader.proofs.gin.pack_postings.Goals as goal
 
 pub pack_entries-requires-clause-entries : goal.pack_entries-requires-clause-entries
 pack_entries-requires-clause-entries g c κs within =

@@ -5,7 +5,7 @@ use Rattle.std.proofs.lemmas.Result.{err_from_is_err_and}
 use Rattle.run_merge.specs.Cutting.{part_of}
 use Rattle.run_merge.specs.Sorted.{all_records}
 use Rattle.build_leader.specs.KeyParts.{AreMade, IsRefused}
-use Rattle.build_leader.proofs.Made.{made_more, refused_last}
+use Rattle.build_leader.proofs.MadeParts.{made_more, refused_last}
 use Rattle.build_leader.proofs.key_parts.+parts.Goals as goal
 
 pub returns-in_err-made-2-clause-refused : goal.returns-in_err-made-2-clause-refused

@@ -1,7 +1,7 @@
 use Rattle.std.proofs.lemmas.Result.{IfOk-weaker}
 use Rattle.build_leader.specs.Calls.{IsScanFault, IsScanned}
 use Rattle.build_leader.specs.Teams.{HandsOver, TellsFault}
-use Rattle.build_leader.proofs.Finishing.{err_then, few_seats, is_scan_fault, is_scanned, scan_of, some_seats, whole_team}
+use Rattle.build_leader.proofs.ScanOutcomes.{err_then, few_seats, is_scan_fault, is_scanned, scan_of, some_seats, whole_team}
 use Rattle.build_leader.proofs.scan.scan_heap.Goals as goal
 
 pub scan_team-requires-clause-scan : goal.scan_team-requires-clause-scan

@@ -10,7 +10,7 @@ use Rattle.build_leader.specs.IndexRow.{index_kinds}
 use Rattle.build_leader.specs.Outcome.{order_of_index}
 use Rattle.build_leader.specs.Packing.{AreEntriesPacked, AreSummariesPacked, IsPackedOf, IsRangeFault}
 use Rattle.build_leader.specs.Pass.{IsPackFault, IsPackedFile}
-use Rattle.build_leader.proofs.Finishing.{err_then}
+use Rattle.build_leader.proofs.ScanOutcomes.{err_then}
 use Rattle.build_leader.proofs.Packed.{both_ok, entries_on_tapes, entries_packed, entry_fault, range_fault, range_kinds, range_sizes, ranges_packed, tree_columns, tree_fault, tree_packed, tree_rows}
 use Rattle.build_leader.proofs.taken.pack_taken.Goals as goal
 

@@ -8,8 +8,8 @@ use Rattle.brin_summary.specs.declared.ranges.SummedRange.{SummedRange}
 use Rattle.build_leader.specs.Ranges.{range_count, told_of}
 use Rattle.build_leader.specs.Tally.{AreOfColumns}
 use Rattle.build_leader.specs.Uniting.{HaveColumns, told_each}
-use Rattle.build_leader.proofs.Uniting.{known_are, known_blocks, known_columns, told_ranges_are}
-use Rattle.build_leader.proofs.brin.pack_ranges.Goals as goal
+use Rattle.build_leader.proofs.UnitedRanges.{known_are, known_blocks, known_columns, told_ranges_are}
+use Rattle.build_leader.proofs.brin.uniting.pack_ranges.Goals as goal
 
 pub pack-requires-clause-columns : goal.pack-requires-clause-columns
 pack-requires-clause-columns c =

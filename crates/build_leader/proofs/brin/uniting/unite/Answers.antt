@@ -1,9 +1,9 @@
 use Rattle.std.proofs.Common.{◌≡◌, ◌<◌, ◌≤◌, ℕ, List, length, get_or, refl, sym, subst, rules}
 use Rattle.std.proofs.lemmas.List.Elements.{All-get_or, All-set}
 use Rattle.brin_summary.specs.Summary.{RangeSummary}
-use Rattle.build_leader.proofs.Telling.{joined_has_columns}
-use Rattle.build_leader.proofs.Uniting.{told_beyond, told_united}
-use Rattle.build_leader.proofs.brin.unite.Goals as goal
+use Rattle.build_leader.proofs.RangeSummaries.{joined_has_columns}
+use Rattle.build_leader.proofs.UnitedRanges.{told_beyond, told_united}
+use Rattle.build_leader.proofs.brin.uniting.unite.Goals as goal
 
 pub returns-then-place-known-clause-alike : goal.returns-then-place-known-clause-alike
 returns-then-place-known-clause-alike c =

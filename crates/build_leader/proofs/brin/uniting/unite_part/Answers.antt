@@ -3,8 +3,8 @@ use Rattle.std.specs.Vec.Iter.{into_iter_items}
 use Rattle.brin_summary.specs.declared.ranges.SummedRange.{SummedRange}
 use Rattle.build_leader.specs.Uniting.{HaveColumns}
 use Rattle.build_leader.proofs.Lists.{one_more}
-use Rattle.build_leader.proofs.Uniting.{next_columns, told_next}
-use Rattle.build_leader.proofs.brin.unite_part.Goals as goal
+use Rattle.build_leader.proofs.UnitedRanges.{next_columns, told_next}
+use Rattle.build_leader.proofs.brin.uniting.unite_part.Goals as goal
 
 pub unite-requires : goal.unite-requires
 unite-requires c =

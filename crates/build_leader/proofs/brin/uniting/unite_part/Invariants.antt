@@ -3,7 +3,7 @@ use Rattle.std.specs.Vec.Iter.{into_iter_items}
 use Rattle.brin_summary.specs.declared.ranges.SummedRange.{SummedRange}
 use Rattle.build_leader.specs.Tally.{AreOfColumns}
 use Rattle.build_leader.specs.Uniting.{AreTold, HaveColumns}
-use Rattle.build_leader.proofs.brin.unite_part.Given as goal
+use Rattle.build_leader.proofs.brin.uniting.unite_part.Given as goal
 
 abbrev pub invariant-loop-summed : goal.invariant-loop-summed
 invariant-loop-summed l = record {

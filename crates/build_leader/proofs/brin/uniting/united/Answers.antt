@@ -9,8 +9,8 @@ use Rattle.build_leader.specs.Ranges.{told_of}
 use Rattle.build_leader.specs.Tally.{AreOfColumns}
 use Rattle.build_leader.specs.Uniting.{AreTold, HaveColumns, told_each}
 use Rattle.build_leader.proofs.Lists.{one_more}
-use Rattle.build_leader.proofs.Uniting.{each_has_columns, flat_push, part_columns, whole}
-use Rattle.build_leader.proofs.brin.united.Goals as goal
+use Rattle.build_leader.proofs.UnitedRanges.{each_has_columns, flat_push, part_columns, whole}
+use Rattle.build_leader.proofs.brin.uniting.united.Goals as goal
 
 pub loop-part-init : goal.loop-part-init
 loop-part-init c =

@@ -2,7 +2,7 @@ use Rattle.std.proofs.Common.{◌≡◌, ◌++◌, length}
 use Rattle.std.specs.List.{flat_map}
 use Rattle.std.specs.Vec.Iter.{into_iter_items}
 use Rattle.build_leader.specs.Uniting.{AreTold, HaveColumns}
-use Rattle.build_leader.proofs.brin.united.Given as goal
+use Rattle.build_leader.proofs.brin.uniting.united.Given as goal
 
 abbrev pub invariant-loop-part : goal.invariant-loop-part
 invariant-loop-part l = record {

@@ -1,7 +1,7 @@
 use Rattle.std.proofs.Common.{◌++◌, [], ◌∷◌, ap, ◌∙◌}
 use Rattle.brin_summary.specs.Summary.{RangeSummary}
-use Rattle.build_leader.proofs.Uniting.{none_more}
-use Rattle.build_leader.proofs.brin.without_rows.Goals as goal
+use Rattle.build_leader.proofs.UnitedRanges.{none_more}
+use Rattle.build_leader.proofs.brin.uniting.without_rows.Goals as goal
 
 pub loop-range-preserved : goal.loop-range-preserved
 loop-range-preserved c =

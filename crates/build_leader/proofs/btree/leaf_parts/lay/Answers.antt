@@ -11,7 +11,7 @@ use Rattle.btree_pack.specs.Pass.Run.{RunView}
 use Rattle.build_leader.specs.IndexRow.{index_kinds}
 use Rattle.build_leader.specs.Pass.{IsFileOfRuns}
 use Rattle.build_leader.proofs.LeafRuns.{AreAdded, all_added, may_add, none_added, one_added}
-use Rattle.build_leader.proofs.leaf_parts.lay.Goals as goal
+use Rattle.build_leader.proofs.btree.leaf_parts.lay.Goals as goal
 
 pub loop-run-init : goal.loop-run-init
 loop-run-init c =

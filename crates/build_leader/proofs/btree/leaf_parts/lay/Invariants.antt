@@ -1,7 +1,7 @@
 use Rattle.std.specs.Vec.Iter.{into_iter_items}
 use Rattle.build_leader.specs.IndexRow.{index_kinds}
 use Rattle.build_leader.proofs.LeafRuns.{AreAdded}
-use Rattle.build_leader.proofs.leaf_parts.lay.Given as goal
+use Rattle.build_leader.proofs.btree.leaf_parts.lay.Given as goal
 
 abbrev pub invariant-loop-run : goal.invariant-loop-run
 invariant-loop-run l = record {

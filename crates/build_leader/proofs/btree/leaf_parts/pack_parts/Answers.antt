@@ -6,7 +6,7 @@ use Rattle.build_leader.specs.IndexRow.{index_kinds}
 use Rattle.build_leader.specs.KeyParts.{AreMade, IsRefused}
 use Rattle.build_leader.specs.Pass.{IsPackFault, IsWrittenRun}
 use Rattle.build_leader.proofs.LeafRuns.{refused_by_part, runs_are_packed, runs_hold}
-use Rattle.build_leader.proofs.leaf_parts.pack_parts.Goals as goal
+use Rattle.build_leader.proofs.btree.leaf_parts.pack_parts.Goals as goal
 
 pub returns-in_err-runs-clause-refused : goal.returns-in_err-runs-clause-refused
 returns-in_err-runs-clause-refused g c =

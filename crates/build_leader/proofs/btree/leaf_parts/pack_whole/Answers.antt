@@ -4,7 +4,7 @@ use Rattle.build_leader.specs.IndexRow.{index_kinds}
 use Rattle.build_leader.specs.Pass.{IsPackFault, IsPackedFile}
 use Rattle.build_leader.proofs.Packed.{whole_fault, whole_file, whole_rows}
 use Rattle.build_leader.proofs.PartRows.{only_part}
-use Rattle.build_leader.proofs.leaf_parts.pack_whole.Goals as goal
+use Rattle.build_leader.proofs.btree.leaf_parts.pack_whole.Goals as goal
 
 pub pack-requires-clause-rows : goal.pack-requires-clause-rows
 pack-requires-clause-rows c =

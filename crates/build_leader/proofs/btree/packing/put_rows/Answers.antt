@@ -3,8 +3,8 @@ use Rattle.std.proofs.lemmas.Result.{err_from_is_err_and}
 use Rattle.shared_tape.specs.declared.stored.Record.{Record}
 use Rattle.run_merge.specs.Merging.{GivesInto, GivesOne}
 use Rattle.build_leader.specs.Pass.{AreComing}
-use Rattle.build_leader.proofs.Coming.{comes_first, comes_last, comes_next, comes_none, comes_to_fault, fewer_left, takes_held}
-use Rattle.build_leader.proofs.packing.put_rows.Goals as goal
+use Rattle.build_leader.proofs.PackerRows.{comes_first, comes_last, comes_next, comes_none, comes_to_fault, fewer_left, takes_held}
+use Rattle.build_leader.proofs.btree.packing.put_rows.Goals as goal
 
 pub rows-init : goal.rows-init
 rows-init g c =

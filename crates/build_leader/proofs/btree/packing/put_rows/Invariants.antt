@@ -1,6 +1,6 @@
 use Rattle.std.proofs.Common.{◌≡◌, length}
 use Rattle.build_leader.specs.Pass.{AreComing}
-use Rattle.build_leader.proofs.packing.put_rows.Given as goal
+use Rattle.build_leader.proofs.btree.packing.put_rows.Given as goal
 
 abbrev pub invariant-rows : goal.invariant-rows
 invariant-rows g l = record {

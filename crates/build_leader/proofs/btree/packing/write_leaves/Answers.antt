@@ -1,5 +1,5 @@
 use Rattle.build_leader.proofs.LeafRuns.{written_run}
-use Rattle.build_leader.proofs.packing.write_leaves.Goals as goal
+use Rattle.build_leader.proofs.btree.packing.write_leaves.Goals as goal
 
 pub returns-clause-written : goal.returns-clause-written
 returns-clause-written c =

@@ -6,7 +6,7 @@ use Rattle.std.proofs.lemmas.Option.{get_or_from_slice_get, slice_get_within}
 use Rattle.shared_tape.specs.Runs.{RunView, records_of}
 use Rattle.run_merge.specs.Sorted.{all_records}
 use Rattle.run_merge.proofs.Gathering.{flat_map-more}
-use Rattle.build_leader.proofs.gin.count_records.Goals as goal
+use Rattle.build_leader.proofs.gin.count.count_records.Goals as goal
 
 pub returns-in_err-count : goal.returns-in_err-count
 returns-in_err-count c =

@@ -3,7 +3,7 @@ use Rattle.std.proofs.lemmas.List.Sums.{sum_by_more, sum_by_more_le}
 use Rattle.std.proofs.lemmas.Option.{get_or_from_slice_get, slice_get_within}
 use Rattle.shared_tape.specs.Runs.{RunView}
 use Rattle.run_merge.specs.Heads.{no_run}
-use Rattle.build_leader.proofs.gin.with_tape.Goals as goal
+use Rattle.build_leader.proofs.gin.count.with_tape.Goals as goal
 
 pub returns-in_err-count : goal.returns-in_err-count
 returns-in_err-count c =

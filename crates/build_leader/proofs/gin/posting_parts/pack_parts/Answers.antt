@@ -4,7 +4,7 @@ use Rattle.run_merge.proofs.KeyCuts.{keys_apart}
 use Rattle.build_leader.specs.Gin.{IsPostingRun}
 use Rattle.build_leader.specs.KeyParts.{AreMade}
 use Rattle.build_leader.proofs.PostingRuns.{of_kind, postings_are_packed, runs_hold_entries, with_kind}
-use Rattle.build_leader.proofs.posting_parts.pack_parts.Goals as goal
+use Rattle.build_leader.proofs.gin.posting_parts.pack_parts.Goals as goal
 
 pub store-requires : goal.store-requires
 store-requires g c =

@@ -3,7 +3,7 @@ use Rattle.std.proofs.lemmas.List.Sorted.{IsPermutation-sym}
 use Rattle.run_merge.specs.Sorted.{all_records}
 use Rattle.gin_pack.proofs.Packing.{moved-file}
 use Rattle.build_leader.proofs.PostingRuns.{entries_of, moved_entries, of_kind, with_kind}
-use Rattle.build_leader.proofs.posting_parts.pack_whole.Goals as goal
+use Rattle.build_leader.proofs.gin.posting_parts.pack_whole.Goals as goal
 
 pub pack-requires-clause-entries : goal.pack-requires-clause-entries
 pack-requires-clause-entries c =

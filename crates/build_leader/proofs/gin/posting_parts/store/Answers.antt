@@ -2,7 +2,7 @@ use Rattle.std.proofs.Common.{◌∙◌, sym, List, sym, subst}
 use Rattle.std.specs.Vec.Iter.{into_iter_items}
 use Rattle.gin_entry.specs.EntryMap.{Posting}
 use Rattle.build_leader.proofs.PostingRuns.{AreAdded, all_added, may_add, may_finish, none_added, one_added}
-use Rattle.build_leader.proofs.posting_parts.store.Goals as goal
+use Rattle.build_leader.proofs.gin.posting_parts.store.Goals as goal
 
 pub loop-postings-init : goal.loop-postings-init
 loop-postings-init c = record {

@@ -1,6 +1,6 @@
 use Rattle.std.specs.Vec.Iter.{into_iter_items}
 use Rattle.build_leader.proofs.PostingRuns.{AreAdded}
-use Rattle.build_leader.proofs.posting_parts.store.Given as goal
+use Rattle.build_leader.proofs.gin.posting_parts.store.Given as goal
 
 abbrev pub invariant-loop-postings : goal.invariant-loop-postings
 invariant-loop-postings l = record {

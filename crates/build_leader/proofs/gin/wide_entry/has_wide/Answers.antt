@@ -6,7 +6,7 @@ use Rattle.gin_entry.specs.Entries.{entry_of}
 use Rattle.gin_entry.specs.EntrySize.{entry_size}
 use Rattle.gin_file.specs.EntryTuple.{most_size}
 use Rattle.build_leader.proofs.WideEntries.{all_small, small_element}
-use Rattle.build_leader.proofs.wide_entry.has_wide.Goals as goal
+use Rattle.build_leader.proofs.gin.wide_entry.has_wide.Goals as goal
 
 pub loop-element-preserved : goal.loop-element-preserved
 loop-element-preserved c =

@@ -3,7 +3,7 @@ use Rattle.std.specs.List.{AllZip}
 use Rattle.opclass.specs.Values.{IsValueOf}
 use Rattle.build_leader.specs.Entries.{HasWideEntry}
 use Rattle.build_leader.proofs.WideEntries.{only}
-use Rattle.build_leader.proofs.wide_entry.has_wide_entry.Goals as goal
+use Rattle.build_leader.proofs.gin.wide_entry.has_wide_entry.Goals as goal
 
 pub is_wide_value-requires-clause-typed : goal.is_wide_value-requires-clause-typed
 is_wide_value-requires-clause-typed c =

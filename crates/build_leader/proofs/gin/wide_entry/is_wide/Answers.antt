@@ -4,7 +4,7 @@ use Rattle.heap_row.specs.Typed.{ElementHasAtMost}
 use Rattle.gin_entry.specs.declared.entry.Entry.{Entry}
 use Rattle.gin_entry.specs.EntrySize.{entry_size}
 use Rattle.build_leader.proofs.WideEntries.{element_size, not_wide}
-use Rattle.build_leader.proofs.wide_entry.is_wide.Goals as goal
+use Rattle.build_leader.proofs.gin.wide_entry.is_wide.Goals as goal
 
 pub entry_size-requires : goal.entry_size-requires
 entry_size-requires c =

@@ -1,5 +1,5 @@
 use Rattle.build_leader.proofs.WideEntries.{never_wide}
-use Rattle.build_leader.proofs.wide_entry.is_wide_value.Goals as goal
+use Rattle.build_leader.proofs.gin.wide_entry.is_wide_value.Goals as goal
 
 pub returns-in_default : goal.returns-in_default
 returns-in_default c =

@@ -1,10 +1,10 @@
 use Rattle.std.proofs.Common.{◌+◌, ◌<◌, ℕ, Bool, true, false, length, sym, subst, arith, take}
 use Rattle.std.proofs.lemmas.Result.{err_from_is_err_and}
 use Rattle.build_leader.specs.Scanning.{TakesRow, TakesRows}
-use Rattle.build_leader.proofs.Held.{stays_both, stays_suited}
-use Rattle.build_leader.proofs.Rows.{page_error, sound_more, takes_more}
-use Rattle.build_leader.proofs.block.add_rows.Goals as goal
-use Rattle.build_leader.proofs.block.add_rows.Goals.{then-branch, else-branch}
+use Rattle.build_leader.proofs.HeldRows.{stays_both, stays_suited}
+use Rattle.build_leader.proofs.PageRows.{page_error, sound_more, takes_more}
+use Rattle.build_leader.proofs.scan.block.add_rows.Goals as goal
+use Rattle.build_leader.proofs.scan.block.add_rows.Goals.{then-branch, else-branch}
 
 pub returns-in_err-add_row-clause-refused : goal.returns-in_err-add_row-clause-refused
 returns-in_err-add_row-clause-refused c =

@@ -1,8 +1,8 @@
 use Rattle.std.proofs.Common.{◌≤◌, take}
 use Rattle.build_leader.specs.Holding.{StaysSuited}
 use Rattle.build_leader.specs.Scanning.{TakesRows}
-use Rattle.build_leader.proofs.Rows.{AreSoundRows}
-use Rattle.build_leader.proofs.block.add_rows.Given as goal
+use Rattle.build_leader.proofs.PageRows.{AreSoundRows}
+use Rattle.build_leader.proofs.scan.block.add_rows.Given as goal
 
 abbrev pub invariant-loop-i : goal.invariant-loop-i
 invariant-loop-i l = record {

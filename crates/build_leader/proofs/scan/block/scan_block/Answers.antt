@@ -1,6 +1,6 @@
 use Rattle.std.proofs.Common.{ℕ, List, length, sym, subst}
 use Rattle.heap_page.specs.Fault.{IsSoundPage}
-use Rattle.build_leader.proofs.block.scan_block.Goals as goal
+use Rattle.build_leader.proofs.scan.block.scan_block.Goals as goal
 
 pub add_rows-requires-clause-sound : goal.add_rows-requires-clause-sound
 add_rows-requires-clause-sound c =

@@ -1,5 +1,5 @@
 use Rattle.std.proofs.Common.{length}
-use Rattle.build_leader.proofs.refill.clear.Given as goal
+use Rattle.build_leader.proofs.scan.refill.clear.Given as goal
 
 abbrev pub decreases-values : goal.decreases-values
 decreases-values l = length l.values

@@ -1,5 +1,5 @@
 use Rattle.std.proofs.Common.{◌≡◌, ◌+◌, ◌<◌, length, take}
-use Rattle.build_leader.proofs.refill.cut_behind.Given as goal
+use Rattle.build_leader.proofs.scan.refill.cut_behind.Given as goal
 
 abbrev pub invariant-behind : goal.invariant-behind
 invariant-behind l = record {

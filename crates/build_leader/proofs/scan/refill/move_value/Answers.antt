@@ -2,8 +2,8 @@ use Rattle.std.proofs.Common.{◌≡◌, List, [], ◌∷◌, ◌++◌, Some, sl
 use Rattle.std.proofs.lemmas.Result.{on_ok_weaker}
 use Rattle.opclass.specs.declared.value.KeyVal.{KeyVal}
 use Rattle.build_leader.specs.Reader.{AreAt}
-use Rattle.build_leader.proofs.Picking.{last_of_front}
-use Rattle.build_leader.proofs.refill.move_value.Goals as goal
+use Rattle.build_leader.proofs.PickedValues.{last_of_front}
+use Rattle.build_leader.proofs.scan.refill.move_value.Goals as goal
 
 pub returns : goal.returns
 returns c =

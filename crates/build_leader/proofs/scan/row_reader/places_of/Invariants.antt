@@ -1,6 +1,6 @@
 use Rattle.std.proofs.Common.{◌≡◌, ◌≤◌, length, take, vec_capacity, vec_len}
 use Rattle.build_leader.specs.Reader.{AreAt}
-use Rattle.build_leader.proofs.row_reader.places_of.Given as goal
+use Rattle.build_leader.proofs.scan.row_reader.places_of.Given as goal
 
 abbrev pub invariant-loop-column : goal.invariant-loop-column
 invariant-loop-column l = record {

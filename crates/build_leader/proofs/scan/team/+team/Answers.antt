@@ -4,10 +4,10 @@ use Rattle.std.specs.Result.{result_from_control_flow}
 use Rattle.std.proofs.lemmas.Bool.{eqb-true}
 use Rattle.std.proofs.lemmas.List.{length-append}
 use Rattle.std.proofs.lemmas.Result.{IfOk-weaker}
-use Rattle.build_leader.specs.declared.team.Team.{Team}
+use Rattle.build_leader.specs.declared.scan.team.Team.{Team}
 use Rattle.build_leader.specs.Teams.{IsTeam}
-use Rattle.build_leader.proofs.Teaming.{both_are_team, last_number, last_seat, rest_fresh}
-use Rattle.build_leader.proofs.team.+team.Goals as goal
+use Rattle.build_leader.proofs.Teams.{both_are_team, last_number, last_seat, rest_fresh}
+use Rattle.build_leader.proofs.scan.team.+team.Goals as goal
 
 pub scan_alone-requires-clause-fresh : goal.scan_alone-requires-clause-fresh
 scan_alone-requires-clause-fresh g t c =

@@ -1,12 +1,12 @@
 use Rattle.std.proofs.Common.{ap, subst, sym, ◌∙◌}
 use Rattle.std.proofs.lemmas.Result.{IfOk-weaker}
-use Rattle.build_leader.specs.declared.worker.Share.{Share}
+use Rattle.build_leader.specs.declared.scan.worker.Share.{Share}
 use Rattle.build_leader.specs.Holding.{IsSinkOf}
 use Rattle.build_leader.specs.Reader.{ReaderView}
 use Rattle.build_leader.specs.Scanning.{IsBetweenClaims}
 use Rattle.build_leader.specs.Teams.{IsAlone, IsTeam, reader_of}
-use Rattle.build_leader.proofs.Teaming.{begun, is_alone}
-use Rattle.build_leader.proofs.team.scan_alone.Goals as goal
+use Rattle.build_leader.proofs.Teams.{begun, is_alone}
+use Rattle.build_leader.proofs.scan.team.scan_alone.Goals as goal
 
 pub scan_share-requires-clause-begun : goal.scan_share-requires-clause-begun
 scan_share-requires-clause-begun g c =

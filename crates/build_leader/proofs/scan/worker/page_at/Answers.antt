@@ -1,5 +1,5 @@
 use Rattle.std.proofs.Common.{◌≡◌, ℕ, ◌+◌, ◌-◌, ◌*◌, ap, ◌∙◌, arith, take, drop}
-use Rattle.build_leader.proofs.worker.page_at.Goals as goal
+use Rattle.build_leader.proofs.scan.worker.page_at.Goals as goal
 use Rattle.pg_bytes.specs.Blocks.{block_at}
 
 pub returns : goal.returns

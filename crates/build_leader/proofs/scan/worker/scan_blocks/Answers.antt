@@ -1,8 +1,8 @@
 use Rattle.std.proofs.Common.{◌≡◌, ◌-◌, ◌≤◌, ℕ, subst, ◌∙◌, arith}
 use Rattle.std.specs.List.{range_with_len}
 use Rattle.build_leader.specs.Scanning.{TakesBlocks}
-use Rattle.build_leader.proofs.Working.{same_both, takes_more}
-use Rattle.build_leader.proofs.worker.scan_blocks.Goals as goal
+use Rattle.build_leader.proofs.WorkerBlocks.{same_both, takes_more}
+use Rattle.build_leader.proofs.scan.worker.scan_blocks.Goals as goal
 
 pub loop-block-preserved : goal.loop-block-preserved
 loop-block-preserved c =

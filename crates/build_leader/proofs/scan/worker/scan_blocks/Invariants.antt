@@ -1,7 +1,7 @@
 use Rattle.std.proofs.Common.{◌≡◌, ◌+◌, ◌-◌, ◌*◌, ◌^◌, ◌≤◌}
 use Rattle.std.specs.List.{range_with_len}
 use Rattle.build_leader.specs.Scanning.{IsSameWorker, IsWorker, TakesBlocks}
-use Rattle.build_leader.proofs.worker.scan_blocks.Given as goal
+use Rattle.build_leader.proofs.scan.worker.scan_blocks.Given as goal
 
 abbrev pub invariant-loop-block : goal.invariant-loop-block
 invariant-loop-block l = record {

@@ -5,8 +5,8 @@ use Rattle.pg_bytes.specs.Blocks.{block_count}
 use Rattle.block_claim.specs.declared.claim.Claim.{Claim}
 use Rattle.block_claim.specs.Calls.{SeatState}
 use Rattle.block_claim.specs.Ramp.{claim_at}
-use Rattle.build_leader.proofs.Claiming.{between_none, between_some, claim_told, claimed_worker, none_told}
-use Rattle.build_leader.proofs.worker.scan_claim.Goals as goal
+use Rattle.build_leader.proofs.WorkerClaims.{between_none, between_some, claim_told, claimed_worker, none_told}
+use Rattle.build_leader.proofs.scan.worker.scan_claim.Goals as goal
 
 pub returns-in_default-clause-between : goal.returns-in_default-clause-between
 returns-in_default-clause-between g c =

@@ -1,10 +1,10 @@
 use Rattle.std.proofs.Common.{ℕ, List, Some, ap, refl, subst, arith}
 use Rattle.block_claim.specs.Calls.{SeatState}
-use Rattle.build_leader.specs.declared.worker.Share.{Share}
+use Rattle.build_leader.specs.declared.scan.worker.Share.{Share}
 use Rattle.build_leader.specs.HeapRows.{IsBlockFault, IsSoundBlock}
 use Rattle.build_leader.specs.Scanning.{IsPageError, TakesPage}
-use Rattle.build_leader.proofs.Working.{was_reported, was_taken, worker_reported, worker_took}
-use Rattle.build_leader.proofs.worker.scan_one.Goals as goal
+use Rattle.build_leader.proofs.WorkerBlocks.{was_reported, was_taken, worker_reported, worker_took}
+use Rattle.build_leader.proofs.scan.worker.scan_one.Goals as goal
 
 pub returns-in-Ok-clause-taken : goal.returns-in-Ok-clause-taken
 returns-in-Ok-clause-taken c =

@@ -1,5 +1,5 @@
-use Rattle.build_leader.proofs.Working.{same_both}
-use Rattle.build_leader.proofs.worker.scan_share.Goals as goal
+use Rattle.build_leader.proofs.WorkerBlocks.{same_both}
+use Rattle.build_leader.proofs.scan.worker.scan_share.Goals as goal
 
 pub claims-preserved : goal.claims-preserved
 claims-preserved g c = record {

@@ -1,6 +1,6 @@
 use Rattle.std.proofs.Common.{◌+◌, ◌-◌, length}
 use Rattle.build_leader.specs.Scanning.{IsBetweenClaims, IsSameWorker}
-use Rattle.build_leader.proofs.worker.scan_share.Given as goal
+use Rattle.build_leader.proofs.scan.worker.scan_share.Given as goal
 
 abbrev pub invariant-claims : goal.invariant-claims
 invariant-claims g l = record {

@@ -2,8 +2,8 @@ use Rattle.std.proofs.Common.{◌≡◌, ◌/◌, ℕ, true, List, sym, subst, �
 use Rattle.std.proofs.lemmas.Result.{on_ok_weaker}
 use Rattle.brin_summary.specs.declared.ranges.SummedRange.{SummedRange}
 use Rattle.build_leader.specs.Tally.{ends_with}
-use Rattle.build_leader.proofs.Tallying.{hold_more}
-use Rattle.build_leader.proofs.ranges.RangeTally.add.Goals as goal
+use Rattle.build_leader.proofs.RangeTallies.{hold_more}
+use Rattle.build_leader.proofs.brin.ranges.RangeTally.add.Goals as goal
 
 pub returns-clause-held : goal.returns-clause-held
 returns-clause-held c =

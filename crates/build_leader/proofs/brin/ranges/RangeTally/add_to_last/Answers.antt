@@ -3,8 +3,8 @@ use Rattle.std.specs.Prelude.{vec_len}
 use Rattle.std.proofs.lemmas.Result.{on_ok_weaker}
 use Rattle.brin_summary.specs.declared.ranges.SummedRange.{SummedRange}
 use Rattle.build_leader.specs.Tally.{TakesIn}
-use Rattle.build_leader.proofs.Tallying.{added_columns, set_alike, takes_in}
-use Rattle.build_leader.proofs.ranges.RangeTally.add_to_last.Goals as goal
+use Rattle.build_leader.proofs.RangeTallies.{added_columns, set_alike, takes_in}
+use Rattle.build_leader.proofs.brin.ranges.RangeTally.add_to_last.Goals as goal
 
 pub returns-clause-taken : goal.returns-clause-taken
 returns-clause-taken c =

@@ -1,7 +1,7 @@
 use Rattle.std.proofs.Common.{◌≡◌, ◌-◌, List, Some, length, slice_get, ap, ◌∙◌}
 use Rattle.brin_summary.specs.declared.ranges.SummedRange.{SummedRange}
-use Rattle.build_leader.proofs.Tallying.{ends_at}
-use Rattle.build_leader.proofs.ranges.RangeTally.ends_with.Goals as goal
+use Rattle.build_leader.proofs.RangeTallies.{ends_at}
+use Rattle.build_leader.proofs.brin.ranges.RangeTally.ends_with.Goals as goal
 
 pub returns-in-Some : goal.returns-in-Some
 returns-in-Some c =

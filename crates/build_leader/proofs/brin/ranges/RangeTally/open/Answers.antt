@@ -2,8 +2,8 @@ use Rattle.std.proofs.Common.{◌≡◌, ◌++◌, [], ◌∷◌, sym, ap, subst
 use Rattle.brin_summary.specs.Summary.{RangeSummary}
 use Rattle.build_leader.specs.Ranges.{HoldRanges}
 use Rattle.build_leader.specs.Tally.{AreOfColumns, begun_range, ends_with}
-use Rattle.build_leader.proofs.Tallying.{begun_columns, ends_begun, hold_begun}
-use Rattle.build_leader.proofs.ranges.RangeTally.open.Goals as goal
+use Rattle.build_leader.proofs.RangeTallies.{begun_columns, ends_begun, hold_begun}
+use Rattle.build_leader.proofs.brin.ranges.RangeTally.open.Goals as goal
 
 pub returns-clause-opened : goal.returns-clause-opened
 returns-clause-opened c =

@@ -5,7 +5,7 @@ use Rattle.build_leader.specs.IndexRow.{index_kinds}
 use Rattle.build_leader.specs.Pass.{IsPackFault, IsWrittenRun}
 use Rattle.build_leader.proofs.LeafRuns.{rows_of_part}
 use Rattle.build_leader.proofs.Packed.{whole_fault, whole_rows, whole_run}
-use Rattle.build_leader.proofs.leaf_parts.LeafWorkPartWork.make.Goals as goal
+use Rattle.build_leader.proofs.btree.leaf_parts.LeafWorkPartWork.make.Goals as goal
 
 pub write_leaves-requires-clause-rows : goal.write_leaves-requires-clause-rows
 write_leaves-requires-clause-rows c =

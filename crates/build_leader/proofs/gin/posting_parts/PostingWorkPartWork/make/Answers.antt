@@ -6,7 +6,7 @@ use Rattle.shared_tape.specs.declared.stored.Record.{Record}
 use Rattle.gin_pack.proofs.Packing.{fewer-left}
 use Rattle.build_leader.specs.Gin.{AreEntries}
 use Rattle.build_leader.proofs.PostingRuns.{all_gathered, entries_of, gathering, none_gathered, one_gathered, part_entries}
-use Rattle.build_leader.proofs.posting_parts.PostingWorkPartWork.make.Goals as goal
+use Rattle.build_leader.proofs.gin.posting_parts.PostingWorkPartWork.make.Goals as goal
 
 pub records-init : goal.records-init
 records-init c =

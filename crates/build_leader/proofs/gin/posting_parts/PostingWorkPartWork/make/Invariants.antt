@@ -2,7 +2,7 @@ use Rattle.std.proofs.Common.{length}
 use Rattle.run_merge.specs.Cutting.{part_of}
 use Rattle.run_merge.specs.Sorted.{all_records}
 use Rattle.build_leader.proofs.PostingRuns.{AreGathered}
-use Rattle.build_leader.proofs.posting_parts.PostingWorkPartWork.make.Given as goal
+use Rattle.build_leader.proofs.gin.posting_parts.PostingWorkPartWork.make.Given as goal
 
 abbrev pub invariant-records : goal.invariant-records
 invariant-records l =

@@ -4,7 +4,7 @@ use Rattle.std.specs.Cmp.Lexicographic.{same_text}
 use Rattle.build_leader.specs.IndexRow.{index_columns, needed_of}
 use Rattle.build_leader.specs.Reader.{AreAt}
 use Rattle.build_leader.proofs.Needed.{columns_are_needed, same_needed}
-use Rattle.build_leader.proofs.row_reader.RowReader.of.Goals as goal
+use Rattle.build_leader.proofs.scan.row_reader.RowReader.of.Goals as goal
 
 pub places_of-requires : goal.places_of-requires
 places_of-requires c =

@@ -4,12 +4,12 @@ use Rattle.std.proofs.lemmas.Result.{err_from_is_err_and}
 use Rattle.opclass.specs.declared.types.ColType.{ColType}
 use Rattle.opclass.specs.declared.spec.IndexSpec.{IndexSpec}
 use Rattle.opclass.specs.Values.{IsValueOf}
-use Rattle.build_leader.specs.declared.width.WidthCause.{WidthCause}
+use Rattle.build_leader.specs.declared.scan.width.WidthCause.{WidthCause}
 use Rattle.build_leader.specs.IndexRow.{AreTooWide, index_kinds}
 use Rattle.build_leader.specs.Reader.{AreReadOrLeft, IsWidthFault}
-use Rattle.build_leader.proofs.Picking.{all_moved, split}
+use Rattle.build_leader.proofs.PickedValues.{all_moved, split}
 use Rattle.build_leader.proofs.Reading.{inside_of, is_record, picked_count, picked_is_sound, picked_typed, short, size_fits, too_wide}
-use Rattle.build_leader.proofs.row_reader.RowReader.read.Goals as goal
+use Rattle.build_leader.proofs.scan.row_reader.RowReader.read.Goals as goal
 
 pub check_width-requires-clause-size : goal.check_width-requires-clause-size
 check_width-requires-clause-size c =
@@ -53,8 +53,8 @@ returns-in_err-check_width-clause-refused c =
     let p = err_from_is_err_and c.from_residual-in_err-check_width.result c.from_residual-in_err-check_width.ensures.1 in
     let fault = c.in_err-check_width.field-0.0 in
     let wide : IsWidthFault s (index_kinds t s) picked fault =
-    subst (λ (spec : IndexSpec). IsWidthFault spec (index_kinds t s) picked fault) of.spec
-    (subst (λ (kinds : List ColType). IsWidthFault c.self.inside.spec.now kinds picked fault) of.kinds c.in_err-check_width.ensures.refused) in
+    subst (λ (kinds : List ColType). IsWidthFault s kinds picked fault) of.kinds
+    (c.in_err-check_width.ensures.refused s c.requires.suits) in
     rw (p.1, p.2) (too_wide t s c.args.view.now.bytes c.args.item of.index picked read c.requires.live fault wide)
 
 pub move_last-requires-2 : goal.move_last-requires-2
@@ -77,9 +77,8 @@ returns-clause-sound c =
     let picked = c.read_columns.new.picked in
     let read = subst (λ (kept : Bool). AreReadOrLeft t s c.args.view.now.bytes c.args.item kept picked)
     c.if-not-branch.false c.in_ok-read_columns.ensures.values in
-    let narrow = subst (λ (spec : IndexSpec). (cause : WidthCause) → AreTooWide cause spec (index_kinds t s) picked → ⊥) of.spec
-    (subst (λ (kinds : List ColType). (cause : WidthCause) → AreTooWide cause c.self.inside.spec.now kinds picked → ⊥) of.kinds
-    c.in_ok-check_width.ensures.narrow) in
+    let narrow = subst (λ (kinds : List ColType). (cause : WidthCause) → AreTooWide cause s kinds picked → ⊥) of.kinds
+    (c.in_ok-check_width.ensures.narrow s c.requires.suits) in
     picked_is_sound t s c.args.view.now.bytes c.args.item of.index picked read narrow
 
 pub returns-clause-record : goal.returns-clause-record

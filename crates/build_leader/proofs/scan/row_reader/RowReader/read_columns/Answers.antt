@@ -1,11 +1,10 @@
-use Rattle.std.proofs.Common.{◌<◌, ℕ, Bool, List, All, length, slice_get, sym, ap, subst, ◌∙◌, arith}
+use Rattle.std.proofs.Common.{◌<◌, ℕ, Bool, List, All, length, slice_get, sym, subst, arith}
 use Rattle.std.specs.Prelude.{IfSome}
 use Rattle.std.proofs.lemmas.Result.{IfOk-weaker}
-use Rattle.opclass.specs.declared.spec.IndexSpec.{IndexSpec}
 use Rattle.opclass.specs.Norm.{IsKeyValue}
 use Rattle.build_leader.specs.Reader.{AreAt, AreNeededOrLeft}
-use Rattle.build_leader.proofs.Reading.{are_inside, are_keys, as_they_stand, inside_of, its_place, no_arrays, one_place, picked_out}
-use Rattle.build_leader.proofs.row_reader.RowReader.read_columns.Goals as goal
+use Rattle.build_leader.proofs.Reading.{are_inside, are_keys, as_they_stand, inside_of, its_place, one_place, picked_out}
+use Rattle.build_leader.proofs.scan.row_reader.RowReader.read_columns.Goals as goal
 
 pub returns-then-self-clause-values : goal.returns-then-self-clause-values
 returns-then-self-clause-values c =
@@ -28,14 +27,14 @@ copy_values-requires c =
           (are_inside reader c.self.inside of c.args.view.now.bytes c.args.item values here);
       keys =
           subst (λ (places : List ℕ). All (λ place. IfSome (slice_get values place) IsKeyValue) places) (sym c.deref.ensures.value)
-          (are_keys reader c.self.inside of c.args.view.now.bytes c.args.item values here (no_arrays reader c.self.inside of c.in-BTree.is));
+          (are_keys reader c.self.inside of c.args.view.now.bytes c.args.item values here (c.takes_arrays.ensures.keys c.if-takes_arrays.false reader.spec c.requires.suits));
     }
 
 pub index-requires : goal.index-requires
 index-requires c =
     let reader = c.args.self.now in
     let of = inside_of reader c.self.inside c.self.invariant c.self.view_is in
-    let gin = sym (ap (λ (spec : IndexSpec). spec.method) of.spec) ∙ c.in-Gin.is in
+    let gin = c.takes_arrays.ensures.arrays c.if-takes_arrays.true reader.spec c.requires.suits in
     omega (arith, one_place reader c.self.inside of gin)
 
 pub move_value-requires : goal.move_value-requires
@@ -45,29 +44,29 @@ move_value-requires c =
     let values = c.read_needed-2.new.values in
     let here = subst (λ (kept : Bool). AreNeededOrLeft reader.table reader.spec c.args.view.now.bytes c.args.item kept values)
     c.if-not-branch.false c.in_ok-read_needed.ensures.values in
-    let gin = sym (ap (λ (spec : IndexSpec). spec.method) of.spec) ∙ c.in-Gin.is in
+    let gin = c.takes_arrays.ensures.arrays c.if-takes_arrays.true reader.spec c.requires.suits in
     let one = one_place reader c.self.inside of gin in
     let inside = are_inside reader c.self.inside of c.args.view.now.bytes c.args.item values here 0 c.index.result.now (omega (arith, one)) in
     omega (arith, inside, c.index.ensures)
 
-pub returns-in_ok-move_value-in-Gin-clause-values : goal.returns-in_ok-move_value-in-Gin-clause-values
-returns-in_ok-move_value-in-Gin-clause-values c =
+pub returns-in_ok-move_value-clause-values : goal.returns-in_ok-move_value-clause-values
+returns-in_ok-move_value-clause-values c =
     let reader = c.args.self.now in
     let of = inside_of reader c.self.inside c.self.invariant c.self.view_is in
     let values = c.read_needed-2.new.values in
     let here = subst (λ (kept : Bool). AreNeededOrLeft reader.table reader.spec c.args.view.now.bytes c.args.item kept values)
     c.if-not-branch.false c.in_ok-read_needed.ensures.values in
-    let gin = sym (ap (λ (spec : IndexSpec). spec.method) of.spec) ∙ c.in-Gin.is in
+    let gin = c.takes_arrays.ensures.arrays c.if-takes_arrays.true reader.spec c.requires.suits in
     let places = its_place reader c.self.inside of gin c.index.result.now c.index.ensures in
     picked_out reader c.self.inside of c.args.view.now.bytes c.args.item values here c.move_value.new.picked
-    (subst (λ (places : List ℕ). AreAt values places c.move_value.new.picked) places c.in_ok-move_value-in-Gin.ensures)
+    (subst (λ (places : List ℕ). AreAt values places c.move_value.new.picked) places c.in_ok-move_value.ensures)
 
-pub returns-in_ok-copy_values-in-BTree-clause-values : goal.returns-in_ok-copy_values-in-BTree-clause-values
-returns-in_ok-copy_values-in-BTree-clause-values c =
+pub returns-in_ok-copy_values-clause-values : goal.returns-in_ok-copy_values-clause-values
+returns-in_ok-copy_values-clause-values c =
     let reader = c.args.self.now in
     let of = inside_of reader c.self.inside c.self.invariant c.self.view_is in
     let values = c.read_needed-2.new.values in
     let here = subst (λ (kept : Bool). AreNeededOrLeft reader.table reader.spec c.args.view.now.bytes c.args.item kept values)
     c.if-not-branch.false c.in_ok-read_needed.ensures.values in
     picked_out reader c.self.inside of c.args.view.now.bytes c.args.item values here c.copy_values.new.picked
-    (subst (λ (places : List ℕ). AreAt values places c.copy_values.new.picked) c.deref.ensures.value c.in_ok-copy_values-in-BTree.ensures)
+    (subst (λ (places : List ℕ). AreAt values places c.copy_values.new.picked) c.deref.ensures.value c.in_ok-copy_values.ensures)

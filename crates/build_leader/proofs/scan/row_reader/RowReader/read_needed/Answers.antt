@@ -1,6 +1,6 @@
 use Rattle.std.proofs.lemmas.Result.{err_from_is_err_and}
 use Rattle.build_leader.proofs.Reading.{inside_of, needed_are, needed_or_left, unread}
-use Rattle.build_leader.proofs.row_reader.RowReader.read_needed.Goals as goal
+use Rattle.build_leader.proofs.scan.row_reader.RowReader.read_needed.Goals as goal
 
 pub read_values_into-requires-clause-needed : goal.read_values_into-requires-clause-needed
 read_values_into-requires-clause-needed c =

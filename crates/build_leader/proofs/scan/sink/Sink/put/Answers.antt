@@ -2,11 +2,11 @@ use Rattle.std.proofs.Common.{◌<◌, length, sym, subst, ◌∙◌}
 use Rattle.std.proofs.lemmas.Result.{on_ok_weaker}
 use Rattle.opclass.specs.declared.value.KeyVal.{KeyVal}
 use Rattle.spool.specs.Gathers.{AreStorableEntries}
-use Rattle.build_leader.specs.declared.sink.Sink.{Sink}
+use Rattle.build_leader.specs.declared.scan.sink.Sink.{Sink}
 use Rattle.build_leader.specs.Entries.{array_of}
 use Rattle.build_leader.specs.Holding.{CanTake, IsSinkOf}
 use Rattle.build_leader.proofs.Sinking.{entries_take, is_array_of, ranges_take, rows_take}
-use Rattle.build_leader.proofs.sink.Sink.put.Goals as goal
+use Rattle.build_leader.proofs.scan.sink.Sink.put.Goals as goal
 
 pub put-requires : goal.put-requires
 put-requires c =

@@ -10,11 +10,11 @@ use Rattle.block_claim.specs.declared.claim.Claim.{Claim}
 use Rattle.block_claim.specs.Calls.{ClaimsAreLegal, IsSeatOf, MakesClaim, NoReportIsMissed, ScanState, SeatState}
 use Rattle.block_claim.specs.Ramp.{claim_at}
 use Rattle.block_claim.specs.Views.{least_of}
-use Rattle.build_leader.specs.declared.worker.Share.{Share}
+use Rattle.build_leader.specs.declared.scan.worker.Share.{Share}
 use Rattle.build_leader.specs.Claimed.{blocks_of_claim, claimed_blocks}
 use Rattle.build_leader.specs.Reader.{ReaderView}
 use Rattle.build_leader.specs.Scanning.{HasTaken, IsBetweenClaims, IsWorker, KeepsLeast, TakesBlocks}
-use Rattle.build_leader.proofs.Working.{judged_still}
+use Rattle.build_leader.proofs.WorkerBlocks.{judged_still}
 
 -- ---- the blocks of a claim
 

@@ -8,7 +8,7 @@ use Rattle.opclass.specs.declared.types.Method.{Method}
 use Rattle.opclass.specs.declared.types.Method.TheVariants.{BTree, Brin, Gin}
 use Rattle.shared_tape.specs.declared.stored.Record.{Record}
 use Rattle.brin_summary.specs.declared.ranges.SummedRange.{SummedRange}
-use Rattle.build_leader.specs.declared.sink.Sink.{Sink}
+use Rattle.build_leader.specs.declared.scan.sink.Sink.{Sink}
 use Rattle.build_leader.specs.Entries.{rows_entries}
 use Rattle.build_leader.specs.Holding.{Held, HoldBy, HoldRows, StaysSuited, Suits, TakesInto, held_by, held_together}
 use Rattle.build_leader.proofs.EntryRows.{entries_append, entries_permuted}

@@ -23,9 +23,9 @@ use Rattle.btree_pack.specs.Groups.{Row}
 use Rattle.btree_pack.specs.Pass.Taken.{row_of}
 use Rattle.build_leader.specs.declared.fault.LeadFault.{LeadFault}
 use Rattle.build_leader.specs.declared.fault.LeadFault.TheVariants as lead
-use Rattle.build_leader.specs.Pass.{AreComing, AreRowsOf, IsClash, IsIndexRow, IsPackFault, TakesRow, TakesRowsOf, WerePut}
+use Rattle.build_leader.specs.Pass.{AreComing, AreRowsOf, IsClash, IsTypedRow, IsPackFault, PutsRow, TakesRowsOf, WerePut}
 use Rattle.build_leader.specs.Unique.{Clash, ClashAt, IsFirstClash, NoneClash}
-use Rattle.build_leader.proofs.Inserting.{in_order}
+use Rattle.build_leader.proofs.InsertedRows.{in_order}
 
 -- ---- places in lists that are joined
 
@@ -153,7 +153,7 @@ fewer_left old new row gives =
 
 module _ {P : Type 0} (has : IndexSpec → List ColType → List Row → P → Type 0) where
   -- a packer takes a row
-  put_more : (spec : IndexSpec) (kinds : List ColType) (packer packer' : P) (held : Record) → TakesRow has packer held packer'
+  put_more : (spec : IndexSpec) (kinds : List ColType) (packer packer' : P) (held : Record) → PutsRow has packer held packer'
       → (rows : List Record) → has spec kinds (map row_of rows) packer → has spec kinds (map row_of (rows ++ held ∷ [])) packer'
   put_more spec kinds packer packer' held takes rows put =
       subst (λ put. has spec kinds put packer') (sym (map_push row_of rows held)) (takes spec kinds (map row_of rows) put)
@@ -164,7 +164,7 @@ module _ {P : Type 0} (has : IndexSpec → List ColType → List Row → P → T
         → AreComing has spec kinds order whole left packer held → takes packer (row_of held)
     takes_held takes law left packer held was =
         law spec kinds (map row_of was.before) packer (row_of held) was.put
-        (All-head (IsIndexRow spec kinds) held left was.rows)
+        (All-head (IsTypedRow spec kinds) held left was.rows)
 
     -- no rows are put already
     pub comes_none : (packer : P) → whole ≡ [] → has spec kinds [] packer → WerePut has spec kinds order whole packer
@@ -188,24 +188,24 @@ module _ {P : Type 0} (has : IndexSpec → List ColType → List Row → P → T
           (none_merged order whole old.left (subst (IsPermutation whole) whole_is (IsPermutation-refl whole)));
       unique = λ unique. none_alone spec held;
       put = put;
-      rows = All-permutation (IsIndexRow spec kinds) old.left (held ∷ new.left) gives.taken rows;
+      rows = All-permutation (IsTypedRow spec kinds) old.left (held ∷ new.left) gives.taken rows;
     }
 
     pub comes_next : (old new : Merging) (packer packer' : P) (held next : Record) → old.order ≡ order
         → (was : AreComing has spec kinds order whole old.left packer held) → GivesOne old next new
-        → TakesRow has packer held packer' → (IsTrue spec.unique → Clash spec held next → ⊥)
+        → PutsRow has packer held packer' → (IsTrue spec.unique → Clash spec held next → ⊥)
         → AreComing has spec kinds order whole new.left packer' next
     comes_next old new packer packer' held next is was gives put agree = record {
       before = was.before ++ held ∷ [];
       merged = merged_next order whole (was.before ++ held ∷ []) old new next is gives was.merged;
       unique = λ unique. none_more spec was.before held next (was.unique unique) (agree unique);
       put = put_more spec kinds packer packer' held put was.before was.put;
-      rows = All-permutation (IsIndexRow spec kinds) old.left (next ∷ new.left) gives.taken
-          (All-tail (IsIndexRow spec kinds) held old.left was.rows);
+      rows = All-permutation (IsTypedRow spec kinds) old.left (next ∷ new.left) gives.taken
+          (All-tail (IsTypedRow spec kinds) held old.left was.rows);
     }
 
     pub comes_last : (left : List Record) (packer packer' : P) (held : Record)
-        → (was : AreComing has spec kinds order whole left packer held) → left ≡ [] → TakesRow has packer held packer'
+        → (was : AreComing has spec kinds order whole left packer held) → left ≡ [] → PutsRow has packer held packer'
         → WerePut has spec kinds order whole packer'
     comes_last left packer packer' held was none put = record {
       sorted = was.before ++ held ∷ [];

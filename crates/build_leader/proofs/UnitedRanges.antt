@@ -15,7 +15,7 @@ use Rattle.build_leader.specs.Ranges.{range_count, told_of, told_ranges}
 use Rattle.build_leader.specs.Tally.{AreOfColumns}
 use Rattle.build_leader.specs.Uniting.{AreTold, HaveColumns, told_each}
 use Rattle.build_leader.proofs.Lists.{all_behind, all_front}
-use Rattle.build_leader.proofs.Telling.{told_has_columns, told_other, told_own}
+use Rattle.build_leader.proofs.RangeSummaries.{told_has_columns, told_other, told_own}
 
 module _ (columns : ℕ) (ranges : List SummedRange) (known : List RangeSummary) (told : AreTold columns ranges known) (summed : SummedRange) where
   known_at : (k : ℕ) (d : RangeSummary) → k < length known → get_or known k d ≡ told_of columns k ranges

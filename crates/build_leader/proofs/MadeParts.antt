@@ -9,7 +9,7 @@ use Rattle.shared_tape.specs.declared.stored.Record.{Record}
 use Rattle.run_merge.specs.Cutting.{part_of}
 use Rattle.build_leader.specs.declared.fault.LeadFault.{LeadFault}
 use Rattle.build_leader.specs.KeyParts.{AreMade, IsRefused}
-use Rattle.build_leader.proofs.Coming.{get-left, get-right}
+use Rattle.build_leader.proofs.PackerRows.{get-left, get-right}
 
 module _ {M : Type 0} (makes : List Record → M → Type 0) (order : List SortPart) (cuts : List (List ℕ)) (records : List Record) where
   none_made : AreMade makes order cuts records 0 []

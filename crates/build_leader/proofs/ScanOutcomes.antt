@@ -13,16 +13,16 @@ use Rattle.block_claim.specs.Views.{least_of, unreported}
 use Rattle.build_leader.specs.declared.fault.LeadFault.{LeadFault}
 use Rattle.build_leader.specs.declared.fault.LeadFault.TheVariants as lead
 use Rattle.build_leader.specs.declared.plan.Plan.{Plan}
-use Rattle.build_leader.specs.declared.scanned.Scanned.{Scanned}
-use Rattle.build_leader.specs.declared.team.Team.{Team}
-use Rattle.build_leader.specs.declared.worker.BlockFault.{BlockFault}
+use Rattle.build_leader.specs.declared.scan.scanned.Scanned.{Scanned}
+use Rattle.build_leader.specs.declared.scan.team.Team.{Team}
+use Rattle.build_leader.specs.declared.scan.worker.BlockFault.{BlockFault}
 use Rattle.build_leader.specs.Calls.{CountsRows, IsFinished, IsOpenedFor, IsPlan, IsScanFault, IsScanned}
 use Rattle.build_leader.specs.Claimed.{claimed_blocks}
 use Rattle.build_leader.specs.HeapRows.{HasSoundBlocks, IsFirstFault}
 use Rattle.build_leader.specs.Holding.{held_on}
 use Rattle.build_leader.specs.Scanning.{HasRowsOf, IsJudged, IsScanOf, KeepsLeast}
 use Rattle.build_leader.specs.Teams.{HandsOver, IsTeam, TellsFault, share_of_seats}
-use Rattle.build_leader.proofs.Counting.{permuted, times, times-range_zero, times_contains}
+use Rattle.build_leader.proofs.EqualCounts.{permuted, times, times-range_zero, times_contains}
 use Rattle.build_leader.proofs.SharedRows.{block_once, moved_rows, of_claims}
 
 -- ---- what holds of a result

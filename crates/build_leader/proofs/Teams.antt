@@ -22,11 +22,11 @@ use Rattle.shared_tape.specs.Runs.{RunView, records_of}
 use Rattle.run_merge.specs.Sorted.{all_records}
 use Rattle.build_leader.specs.declared.plan.Plan.{Plan}
 use Rattle.brin_summary.specs.declared.ranges.SummedRange.{SummedRange}
-use Rattle.build_leader.specs.declared.row_slot.RowSlot.{RowSlot}
-use Rattle.build_leader.specs.declared.sink.Sink.{Sink}
-use Rattle.build_leader.specs.declared.team.Team.{Team}
-use Rattle.build_leader.specs.declared.worker.BlockFault.{BlockFault}
-use Rattle.build_leader.specs.declared.worker.Share.{Share}
+use Rattle.build_leader.specs.declared.scan.row_slot.RowSlot.{RowSlot}
+use Rattle.build_leader.specs.declared.scan.sink.Sink.{Sink}
+use Rattle.build_leader.specs.declared.scan.team.Team.{Team}
+use Rattle.build_leader.specs.declared.scan.worker.BlockFault.{BlockFault}
+use Rattle.build_leader.specs.declared.scan.worker.Share.{Share}
 use Rattle.build_leader.specs.Calls.{ArePartsFrom, IsPartOf}
 use Rattle.build_leader.specs.Claimed.{claimed_blocks, blocks_of_claim}
 use Rattle.build_leader.specs.HeapRows.{AreRowsOfBlocks}
@@ -34,10 +34,10 @@ use Rattle.build_leader.specs.Holding.{Held, HoldRows, IsSinkOf, Suits, held_by,
 use Rattle.build_leader.specs.Reader.{ReaderView}
 use Rattle.build_leader.specs.Scanning.{HasRowsOf, HasTaken, IsBetweenClaims, IsJudged, IsScanOf, IsTakenOf, KeepsLeast, Taken, begun_with}
 use Rattle.build_leader.specs.Teams.{AreClaimsOfWorkers, AreFreshSeats, IsAlone, IsTeam, joined_team, lesser_fault, reader_of, taken_by_team}
-use Rattle.build_leader.proofs.Coming.{get-left, get-right}
-use Rattle.build_leader.proofs.Held.{hold_moved, hold_none, hold_together, nothing_held}
+use Rattle.build_leader.proofs.PackerRows.{get-left, get-right}
+use Rattle.build_leader.proofs.HeldRows.{hold_moved, hold_none, hold_together, nothing_held}
 use Rattle.build_leader.proofs.SharedRows.{rows_append}
-use Rattle.build_leader.proofs.Working.{judged_still}
+use Rattle.build_leader.proofs.WorkerBlocks.{judged_still}
 
 -- ---- what a worker begins with
 

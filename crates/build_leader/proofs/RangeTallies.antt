@@ -15,7 +15,7 @@ use Rattle.build_leader.specs.Ranges.{HoldRanges, range_of, range_summary, told_
 use Rattle.build_leader.specs.Tally.{AreOfColumns, TakesIn, begun_range, ends_with}
 use Rattle.build_leader.proofs.Holding.{held_is_summary, range_summary-append, values_in-append}
 use Rattle.build_leader.proofs.Lists.{get_last, has_last, set_last}
-use Rattle.build_leader.proofs.Telling.{joined_has_columns, summary_has_columns, told_begun, told_other, told_own}
+use Rattle.build_leader.proofs.RangeSummaries.{joined_has_columns, summary_has_columns, told_begun, told_other, told_own}
 
 abbrev HasColumns : ℕ → SummedRange → Type 0
 HasColumns columns summed = length summed.summary.columns ≡ columns

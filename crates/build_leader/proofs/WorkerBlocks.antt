@@ -13,15 +13,15 @@ use Rattle.block_claim.specs.Calls.{ClaimsAreLegal, IsSeatOf, MakesReport, NoRep
 use Rattle.block_claim.specs.Views.{least_of, unreported}
 use Rattle.block_claim.proofs.Floors.{least_append, least_top}
 use Rattle.shared_tape.specs.declared.stored.Record.{Record}
-use Rattle.build_leader.specs.declared.row_slot.RowSlot.{RowSlot}
-use Rattle.build_leader.specs.declared.sink.Sink.{Sink}
-use Rattle.build_leader.specs.declared.worker.BlockFault.{BlockFault}
-use Rattle.build_leader.specs.declared.worker.Share.{Share}
+use Rattle.build_leader.specs.declared.scan.row_slot.RowSlot.{RowSlot}
+use Rattle.build_leader.specs.declared.scan.sink.Sink.{Sink}
+use Rattle.build_leader.specs.declared.scan.worker.BlockFault.{BlockFault}
+use Rattle.build_leader.specs.declared.scan.worker.Share.{Share}
 use Rattle.build_leader.specs.HeapRows.{AreBlockRows, AreRowsOfBlocks, IsBlockFault, IsSoundBlock}
 use Rattle.build_leader.specs.Holding.{StaysSuited, held_by}
 use Rattle.build_leader.specs.Reader.{ReaderView}
 use Rattle.build_leader.proofs.SharedRows.{rows_append}
-use Rattle.build_leader.proofs.Held.{stays_both, stays_suited}
+use Rattle.build_leader.proofs.HeldRows.{stays_both, stays_suited}
 use Rattle.build_leader.specs.Scanning.{HasRowsOf, HasTaken, IsJudged, IsSameWorker, IsWorker, KeepsLeast, TakesBlocks, TakesPage}
 
 -- ---- rows of blocks

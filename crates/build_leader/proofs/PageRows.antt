@@ -13,16 +13,16 @@ use Rattle.heap_page.specs.Fault.{IsSoundPage}
 use Rattle.hot_chain.specs.Roots.{AreRows, HasSoundChains, IsLive, Row}
 use Rattle.heap_row.specs.declared.fault.RowFault.TheVariants.{Value}
 use Rattle.shared_tape.specs.declared.stored.Record.{Record}
-use Rattle.build_leader.specs.declared.sink.Sink.{Sink}
+use Rattle.build_leader.specs.declared.scan.sink.Sink.{Sink}
 use Rattle.build_leader.specs.Holding.{TakesInto}
-use Rattle.build_leader.proofs.Held.{takes_both, takes_none}
+use Rattle.build_leader.proofs.HeldRows.{takes_both, takes_none}
 use Rattle.build_leader.specs.HeapRows.{HasSoundItems, IsBlockFault, OfItems}
-use Rattle.build_leader.specs.declared.width.WidthCause.{WidthCause}
-use Rattle.build_leader.specs.declared.width.WidthCause.TheVariants as width
+use Rattle.build_leader.specs.declared.scan.width.WidthCause.{WidthCause}
+use Rattle.build_leader.specs.declared.scan.width.WidthCause.TheVariants as width
 use Rattle.build_leader.specs.IndexRow.{AreIndexRows, AreTooWide, HasItemFault, ItemCause, TooWide, Unread, index_kinds, number_of_item_cause, number_of_width_cause}
 use Rattle.build_leader.specs.Reader.{IsItemFault, IsSoundItem}
-use Rattle.build_leader.specs.declared.block.BlockError.{BlockError}
-use Rattle.build_leader.specs.declared.block.BlockError.TheVariants as error
+use Rattle.build_leader.specs.declared.scan.block.BlockError.{BlockError}
+use Rattle.build_leader.specs.declared.scan.block.BlockError.TheVariants as error
 use Rattle.build_leader.specs.Scanning.{IsPageError, IsRowError, TakesRow, TakesRows}
 
 -- ---- rows that go into a sink
