@@ -1,11 +1,13 @@
-//! Tests of `opclass`, `tuple_data`, `btree_item`, `brin_summary`, `gin_entry`, `posting_tree` and
-//! `gin_file`.
+//! Tests of `opclass`, `tuple_data`, `btree_item`, `btree_page`, `brin_summary`, `gin_entry`,
+//! `posting_tree` and `gin_file`.
 //!
 //! A crate with tests is proved a second time with them, so they stand apart from what they try.
 //! There is no other code here.
 
 #![tactic(auto)]
 
+#[cfg(test)]
+mod btree_pages;
 #[cfg(test)]
 mod entries;
 #[cfg(test)]
