@@ -7,6 +7,8 @@
 #![tactic(auto)]
 
 #[cfg(test)]
+mod attributes;
+#[cfg(test)]
 mod entries;
 #[cfg(test)]
 mod entry_tuples;
