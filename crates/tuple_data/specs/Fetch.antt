@@ -1,5 +1,5 @@
--- The value of an attribute in the place where it stands (fetch_att of tupmacs.h, VARDATA_ANY of varatt.h). Where no value
--- of the type stands, nothing is relied on.
+-- The value of an attribute in the place where it stands (fetch_att of tupmacs.h, VARDATA_ANY of varatt.h). Where no
+-- value of the type stands, nothing is relied on.
 use Rattle.std.specs.Prelude.{ℕ, ◌+◌, ◌-◌, ◌/◌, ◌%◌, pos, nat_eq, if◌then◌else◌, List, [], ◌∷◌, length, take, drop, slice_index}
 use Rattle.byteorder.specs.Endian.{little_number, twos_complement}
 use Rattle.opclass.specs.declared.types.ColType.{ColType}

@@ -29,7 +29,8 @@ impl<'a> Model for Values<'a> {
 
     ghost Value = { List KeyVal };
 
-    ghost view = { λ values. values_at values.place values.kinds.now values.present values.rest.now };
+    ghost view = { λ values.
+        values_at values.place values.kinds.now values.present values.rest.now };
 
     ghost invariant = { λ values.
         AreInPlace values.place values.kinds.now values.present values.rest.now };
