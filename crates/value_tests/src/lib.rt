@@ -21,6 +21,8 @@ mod postings;
 #[cfg(test)]
 mod ranges;
 #[cfg(test)]
+mod tuple_items;
+#[cfg(test)]
 mod tuples;
 #[cfg(test)]
 mod values;
