@@ -90,21 +90,21 @@ two-pivots kinds bytes keys others (Some last) (Some next) child page few stored
 
 -- ---- of two kinds
 
-plain-low : (kinds : List ColType) (bytes : List ℕ) (keys : List KeyVal) (ptr : RowPtr) → IsTupleOf kinds bytes (item.Plain keys ptr)
+pub plain-low : (kinds : List ColType) (bytes : List ℕ) (keys : List KeyVal) (ptr : RowPtr) → IsTupleOf kinds bytes (item.Plain keys ptr)
     → number_at 2 bytes 6 % 0x4000 ≤ 2704
 plain-low kinds bytes keys ptr t =
     let low = info-low kinds bytes _ _ keys (plain-begins kinds bytes keys ptr t) in let small = t.is_item.small in omega arith
 
-posting-high : (kinds : List ColType) (bytes : List ℕ) (keys : List KeyVal) (ptrs : List RowPtr) → IsTupleOf kinds bytes (item.Posting keys ptrs)
+pub posting-high : (kinds : List ColType) (bytes : List ℕ) (keys : List KeyVal) (ptrs : List RowPtr) → IsTupleOf kinds bytes (item.Posting keys ptrs)
     → 0x2000 ≤ number_at 2 bytes 6 % 0x4000
 posting-high kinds bytes keys ptrs t = let low = info-low kinds bytes _ _ keys (posting-begins kinds bytes keys ptrs t) in omega arith
 
-pivot-high : (kinds : List ColType) (bytes : List ℕ) (keys : List KeyVal) (last : Option RowPtr) (child : ℕ)
+pub pivot-high : (kinds : List ColType) (bytes : List ℕ) (keys : List KeyVal) (last : Option RowPtr) (child : ℕ)
     → IsTupleOf kinds bytes (item.Pivot keys last child) → 0x2000 ≤ number_at 2 bytes 6 % 0x4000
 pivot-high kinds bytes keys last child t =
     let low = info-low (kept_kinds kinds keys) bytes _ _ keys (pivot-begins kinds bytes keys last child t) in omega arith
 
-posting-not-pivot : (kinds : List ColType) (bytes : List ℕ) (keys others : List KeyVal) (ptrs : List RowPtr) (last : Option RowPtr) (child : ℕ)
+pub posting-not-pivot : (kinds : List ColType) (bytes : List ℕ) (keys others : List KeyVal) (ptrs : List RowPtr) (last : Option RowPtr) (child : ℕ)
     → length kinds ≤ 32 → IsTupleOf kinds bytes (item.Posting keys ptrs) → IsTupleOf kinds bytes (item.Pivot others last child) → ⊥
 posting-not-pivot kinds bytes keys others ptrs None child few t u =
     let offset = ap (λ (p : RowPtr). p.offset) (sym (posting-front kinds bytes keys ptrs t) ∙ pivot-front kinds bytes others None child few u) in

@@ -82,3 +82,13 @@ image_of_item kinds (item.Pivot keys last child) =
 pub record IsTupleOf (kinds : List ColType) (bytes : List ℕ) (said : Item) : Type 0 where
   pub is_item : IsItemOf kinds said
   pub bytes_are : bytes ≡ image_of_item kinds said
+
+-- The tuple of an index whose first columns are its keys and whose others are INCLUDE columns: a row has the values of
+-- all, rows share a tuple only where all columns are keys (_bt_allequalimage of nbtutils.c), and a pivot has keys alone
+-- (_bt_truncate of the same).
+abbrev pub IsTupleOfIndex : List ColType → ℕ → List ℕ → Item → Type 0
+IsTupleOfIndex kinds key_count bytes (item.Plain keys ptr) = IsTupleOf kinds bytes (item.Plain keys ptr)
+IsTupleOfIndex kinds key_count bytes (item.Posting keys ptrs) =
+    (key_count ≡ length kinds) × IsTupleOf kinds bytes (item.Posting keys ptrs)
+IsTupleOfIndex kinds key_count bytes (item.Pivot keys last child) =
+    IsTupleOf (take key_count kinds) bytes (item.Pivot keys last child)

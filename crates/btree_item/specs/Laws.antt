@@ -12,7 +12,7 @@ use Rattle.btree_item.specs.Tuple.{size_of}
 use Rattle.btree_item.specs.Leaf.{plain_image, posting_image, posting_size}
 use Rattle.btree_item.specs.Pivot.{image_of_attributes, kept_of, minus_infinity, pivot_cmp, pivot_image, tail_size}
 use Rattle.btree_item.specs.Truncation.{KeepsUpToDifference}
-use Rattle.btree_item.specs.Item.{IsTupleOf}
+use Rattle.btree_item.specs.Item.{IsTupleOfIndex}
 use Rattle.btree_item.specs.declared.item.Item.{Item}
 
 -- rows with the same values have the same plain images up to the row pointer
@@ -55,5 +55,5 @@ PivotsSeparate =
 -- bytes are the tuple of one item at most
 abbrev pub TuplesAreToldApart : Type 0
 TuplesAreToldApart =
-    (kinds : List ColType) (bytes : List ℕ) (said other : Item)
-    → length kinds ≤ 32 → AreStored kinds → IsTupleOf kinds bytes said → IsTupleOf kinds bytes other → said ≡ other
+    (kinds : List ColType) (key_count : ℕ) (bytes : List ℕ) (said other : Item) → length kinds ≤ 32 → AreStored kinds
+    → IsTupleOfIndex kinds key_count bytes said → IsTupleOfIndex kinds key_count bytes other → said ≡ other

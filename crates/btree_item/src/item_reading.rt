@@ -1,4 +1,5 @@
-ghost use Rattle.std.specs.Prelude.{◌≡◌, ◌+◌, ◌*◌, ◌^◌, ◌<◌, ◌≤◌, ◌↔◌, ℕ, List, ◌++◌, All, IsTrue, IfOk, IfSome, MatchOption, Option, Some, None, length};
+ghost use Rattle.std.specs.Prelude.{◌≡◌, ◌+◌, ◌*◌, ◌%◌, ◌^◌, ◌<◌, ◌≤◌, ◌↔◌, ℕ, List, ◌++◌, All, IsTrue, IfOk, IfSome, MatchOption, Option, Some, None, length};
+ghost use Rattle.pg_bytes.specs.Numbers.{number_at};
 ghost use Rattle.pg_bytes.specs.Pointers.{row_pointer_at};
 ghost use Rattle.pg_bytes.specs.declared.row_ptr.RowPtr.{RowPtr};
 ghost use Rattle.opclass.specs.declared.value.KeyVal.{KeyVal};
@@ -6,7 +7,7 @@ ghost use Rattle.tuple_data.specs.Reading.{AreStored};
 ghost use Rattle.btree_item.specs.Tuple.{size_of};
 ghost use Rattle.btree_item.specs.Leaf.{plain_image, posting_image};
 ghost use Rattle.btree_item.specs.Pivot.{image_of_attributes};
-ghost use Rattle.btree_item.specs.Item.{IsBeforeFirst, IsPointer, IsTupleOf, MayShare, PointersAscend};
+ghost use Rattle.btree_item.specs.Item.{IsBeforeFirst, IsPointer, IsTupleOf, IsTupleOfIndex, MayShare, PointersAscend};
 ghost use Rattle.btree_item.specs.Pass.{BeginsWithPointers, pointers_in};
 ghost use Rattle.btree_item.specs.declared.item.Item.{Item};
 ghost use Rattle.btree_item.specs.declared.item.Item.TheVariants.{Pivot, Plain, Posting};
@@ -28,25 +29,59 @@ const ROW_MOST: u64 = 2704;
 const PIVOT_MOST: usize = 2712;
 
 /// What the one tuple says that has these bytes, in a B-tree over columns of these types, at most
-/// 32 (`BTreeTupleIsPosting`, `BTreeTupleIsPivot` and their kin of `nbtree.h`). None comes exactly
-/// where there is no such tuple. An error means that no memory was left.
-pub fn read_item(alloc: Global, kinds: &Kinds, bytes: &[u8]) -> Result<Option<Item>, AllocError>
+/// 32, of which the first are keys and the others INCLUDE columns (`BTreeTupleIsPosting`,
+/// `BTreeTupleIsPivot` and their kin of `nbtree.h`). None comes exactly where there is no such
+/// tuple. An error means that no memory was left.
+pub fn read_item(
+    alloc: Global,
+    kinds: &Kinds,
+    key_count: u16,
+    bytes: &[u8],
+) -> Result<Option<Item>, AllocError>
     requires few { length kinds.now ≤ 32 }
     requires stored { AreStored kinds.now }
+    requires some { 1 ≤ key_count }
+    requires keys { key_count ≤ length kinds.now }
     ensures { IfOk result (λ answer. MatchOption answer
-        ((item : Item) → IsTupleOf kinds.now bytes.now item → ⊥)
-        (IsTupleOf kinds.now bytes.now)) }
+        ((item : Item) → IsTupleOfIndex kinds.now key_count bytes.now item → ⊥)
+        (IsTupleOfIndex kinds.now key_count bytes.now)) }
 {
     if bytes.len() < HEAD || bytes.len() > PIVOT_MOST {
         return Ok(None);
     }
     let kinds = kinds.as_slice();
+    let keys = &kinds[..usize::from(key_count)];
     let front = RowPtr::at(bytes, 0);
     if u16_at(bytes, T_INFO) % HAS_VARIABLE < NO_ROW {
         read_plain(alloc, kinds, front, bytes)
-    } else if front.offset >= POSTING {
+    } else if front.offset < POSTING {
+        read_any_pivot(alloc, keys, front, bytes)
+    } else if keys.len() < kinds.len() {
+        Ok(None)
+    } else {
         read_posting(alloc, kinds, front.offset - POSTING, bytes)
-    } else if front.offset >= WITH_POINTER {
+    }
+}
+
+// What the pivot says that has this in front, with a row pointer or without.
+fn read_any_pivot(
+    alloc: Global,
+    kinds: &[ColType],
+    front: RowPtr,
+    bytes: &[u8],
+) -> Result<Option<Item>, AllocError>
+    requires few { length kinds.now ≤ 32 }
+    requires stored { AreStored kinds.now }
+    requires head { 8 ≤ length bytes.now }
+    requires size { length bytes.now ≤ 2712 }
+    requires front { front ≡ row_pointer_at bytes.now 0 }
+    requires mark { 0x2000 ≤ number_at 2 bytes.now 6 % 0x4000 }
+    requires pivot { front.offset < 0x2000 }
+    ensures { IfOk result (λ answer. MatchOption answer
+        ((item : Item) → IsTupleOf kinds.now bytes.now item → ⊥)
+        (IsTupleOf kinds.now bytes.now)) }
+{
+    if front.offset >= WITH_POINTER {
         read_pivot_with_pointer(alloc, kinds, front, bytes)
     } else {
         read_pivot(alloc, kinds, front, bytes)
