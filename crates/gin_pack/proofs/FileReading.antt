@@ -1,5 +1,5 @@
 -- A file that has postings is read as them.
-use Rattle.std.proofs.Common.{◌≡◌, ℕ, ◌+◌, ◌≤◌, List, [], ◌∷◌, ◌++◌, length, refl, sym, ap, subst, ◌∙◌, arith, length-append, inl, inr}
+use Rattle.std.proofs.Common.{◌≡◌, ℕ, ◌+◌, ◌<◌, ◌≤◌, List, [], ◌∷◌, ◌++◌, length, refl, sym, ap, subst, ◌∙◌, arith, length-append, inl, inr}
 use Rattle.std.specs.Prelude.{◌⊎◌, IfSome, Option, Some, None, map, All}
 use Rattle.std.specs.List.{AllByRecursion, AllZip, flat_map, last_or, sum_by}
 use Rattle.std.specs.List.Sorted.{IsStrictlySortedBy}
@@ -13,7 +13,8 @@ use Rattle.gin_entry.specs.EntryMap.{IsPostingList, Posting}
 use Rattle.gin_entry.specs.EntryOrder.{entry_cmp}
 use Rattle.gin_entry.specs.EntrySize.{entry_size}
 use Rattle.posting_tree.specs.Laws.{IsSeenAbove}
-use Rattle.posting_tree.specs.Levels.{AreAbove, AreLevel, Downlink, IsEmptyRoot, IsPage, Kind, Node, Page, Tree, items_of, no_link, nodes_of_level, said, to_say}
+use Rattle.posting_tree.specs.Levels.{AreAbove, AreLevel, Downlink, IsEmptyRoot, IsPage, IsRootOf, Kind, Node, Page, Tree, items_of, no_link, nodes_linked, nodes_of, nodes_of_level, said, to_say, top_of}
+use Rattle.posting_tree.specs.PostingTree.{inner_kind as list_inner_kind, leaf_kind as list_leaf_kind}
 use Rattle.posting_tree.specs.Reading.Sight.{SeenLeaf}
 use Rattle.posting_tree.specs.Special.{leaf_flag}
 use Rattle.posting_tree.proofs.PostingReading.{all-pages, standing-is-read}
@@ -25,27 +26,86 @@ use Rattle.gin_file.specs.Reading.{IsReadAsPostings, Tells}
 use Rattle.gin_file.specs.Entry.{IsEntry}
 use Rattle.gin_pack.specs.Pass.Placing.{HaveRoom}
 use Rattle.gin_pack.specs.Postings.{IsListed}
+use Rattle.gin_file.proofs.EntryItems.{listed as listed-in}
 use Rattle.gin_file.proofs.EntryTuples.{leading-is_tuple, list-is_tuple}
 use Rattle.gin_pack.proofs.Fillings.{fill-is, tuples_of}
 use Rattle.gin_pack.proofs.PageReading.{inner-seen, leaf-seen}
 use Rattle.gin_pack.proofs.Rising.{length-nodes}
+
+-- ---- lists
+
+all-front : {X : Type 0} (P : X → Type 0) (xs ys : List X) → AllByRecursion P (xs ++ ys) → AllByRecursion P xs
+all-front P [] ys all = tt
+all-front P (x ∷ xs) ys all = (all.0, all-front P xs ys all.1)
+
+all-back : {X : Type 0} (P : X → Type 0) (xs ys : List X) → AllByRecursion P (xs ++ ys) → AllByRecursion P ys
+all-back P [] ys all = all
+all-back P (x ∷ xs) ys all = all-back P xs ys all.1
+
+-- ---- the root of a tree
+
+-- the blocks of a level's pages are those of its nodes
+level-inside : {I K : Type 0} (most : ℕ) (kind : Kind I K) (link : ℕ) (pages : List (Page I)) → AllByRecursion (λ node. node.block < most) (nodes_linked kind link pages)
+    → AllByRecursion (λ block. block < most) (map (λ page. page.block) pages)
+level-inside most kind link [] all = tt
+level-inside most kind link (page ∷ pages) all = (all.0, level-inside most kind link pages all.1)
+
+top-inside : {K : Type 0} (most : ℕ) (inner : Kind (Downlink K) K) (blocks : List ℕ) (above : List (List (Page (Downlink K)))) (root : ℕ)
+    → AllByRecursion (λ block. block < most) blocks → AllByRecursion (λ node. node.block < most) (flat_map (nodes_of_level inner) above)
+    → top_of blocks above ≡ root ∷ [] → root < most
+top-inside most inner blocks [] root here all is = (subst (AllByRecursion (λ block. block < most)) is here).0
+top-inside most inner blocks (pages ∷ above) root here all is =
+    let both = subst (AllByRecursion (λ node. node.block < most)) (flat_map-cons (nodes_of_level inner) pages above) all in
+    top-inside most inner (map (λ page. page.block) pages) above root
+    (level-inside most inner no_link pages (all-front (λ (n : Node). n.block < most) (nodes_of_level inner pages) (flat_map (nodes_of_level inner) above) both))
+    (all-back (λ (n : Node). n.block < most) (nodes_of_level inner pages) (flat_map (nodes_of_level inner) above) both)
+    is
+
+-- the root of a tree has one of its blocks
+root-inside : {L K : Type 0} (most : ℕ) (leaf : Kind L K) (inner : Kind (Downlink K) K) (tree : Tree L K) (root : ℕ)
+    → AllByRecursion (λ node. node.block < most) (nodes_of leaf inner tree) → IsRootOf tree root → root < most
+root-inside most leaf inner tree root all is =
+    let leaves : List Node = nodes_of_level leaf tree.leaves in
+    let above : List Node = flat_map (nodes_of_level inner) tree.above in
+    top-inside most inner (map (λ page. page.block) tree.leaves) tree.above root
+    (level-inside most leaf no_link tree.leaves (all-front (λ (n : Node). n.block < most) leaves above all))
+    (all-back (λ (n : Node). n.block < most) leaves above all)
+    is
 
 -- ---- what each tuple tells
 
 -- an entry that is stored tells its posting
 tells : (kind : ColType) (file : List ℕ) (stored : Stored) → IsListed kind stored.posting → IsStored kind file stored → pages_apart stored ≤ block_count file
     → block_count file ≤ no_link → Tells kind file (tuple_of kind stored) stored.posting
-tells kind file stored listed is few linked = by stored.posting stored.apart listed is few
+tells kind file stored its is few linked = by stored.posting stored.apart its is few
   where
     by : (posting : Posting) (apart : Option ListTree) → IsListed kind posting → IsStored kind file (record { posting = posting; apart = apart })
         → pages_apart (record { posting = posting; apart = apart }) ≤ block_count file
         → Tells kind file (tuple_of kind (record { posting = posting; apart = apart })) posting
-    by posting None listed is few = inl refl
-    by posting (Some apart) listed is few =
+    by posting None entry is few =
+        inl (record {
+          is_item = (
+            entry.is_entry,
+            listed-in kind posting.entry posting.pointers entry.some entry.ascending entry.blocks (omega arith),
+          );
+          bytes_are = refl;
+        })
+    by posting (Some apart) entry is few =
         inr (
           apart.root,
-          refl,
-          standing-is-read file apart.tree apart.root posting.pointers is.tree is.root is.stands is.inside few linked listed.some listed.ascending listed.blocks,
+          record {
+            is_item = (
+              entry.is_entry,
+              record {
+                size = let small = entry.small in omega arith;
+                block_is =
+                    let below = root-inside (block_count file) list_leaf_kind list_inner_kind apart.tree apart.root is.inside is.root in
+                    omega arith;
+              },
+            );
+            bytes_are = refl;
+          },
+          standing-is-read file apart.tree apart.root posting.pointers is.tree is.root is.stands is.inside few linked entry.some entry.ascending entry.blocks,
         )
 
 all-tell : (kind : ColType) (file : List ℕ) (stored : List Stored) → AllByRecursion (λ each. IsListed kind each.posting) stored
@@ -68,25 +128,17 @@ AreGood kind items = AllByRecursion (λ item. IsTuple item.tuple × IsGood kind 
 
 good-item : (kind : ColType) (file : List ℕ) (stored : Stored) → IsListed kind stored.posting → IsStored kind file stored
     → IsTuple (item_of kind stored).tuple × IsGood kind (item_of kind stored).entry
-good-item kind file stored listed is = (by stored.posting stored.apart listed is, (listed.is_entry, listed.small))
+good-item kind file stored listed is = (by stored.posting stored.apart listed is, (listed.is_entry.entry_is, listed.small))
   where
     by : (posting : Posting) (apart : Option ListTree) → IsListed kind posting → IsStored kind file (record { posting = posting; apart = apart })
         → IsTuple (tuple_of kind (record { posting = posting; apart = apart }))
-    by posting None listed is = list-is_tuple kind posting.entry posting.pointers listed.is_entry is
-    by posting (Some apart) listed is = leading-is_tuple kind posting.entry _ listed.is_entry listed.small
+    by posting None listed is = list-is_tuple kind posting.entry posting.pointers listed.is_entry.entry_is is
+    by posting (Some apart) listed is = leading-is_tuple kind posting.entry _ listed.is_entry.entry_is listed.small
 
 good-items : (kind : ColType) (file : List ℕ) (stored : List Stored) → AllByRecursion (λ each. IsListed kind each.posting) stored
     → AllByRecursion (IsStored kind file) stored → AreGood kind (map (item_of kind) stored)
 good-items kind file [] listed are = tt
 good-items kind file (each ∷ stored) listed are = (good-item kind file each listed.0 are.0, good-items kind file stored listed.1 are.1)
-
-all-front : {X : Type 0} (P : X → Type 0) (xs ys : List X) → AllByRecursion P (xs ++ ys) → AllByRecursion P xs
-all-front P [] ys all = tt
-all-front P (x ∷ xs) ys all = (all.0, all-front P xs ys all.1)
-
-all-back : {X : Type 0} (P : X → Type 0) (xs ys : List X) → AllByRecursion P (xs ++ ys) → AllByRecursion P ys
-all-back P [] ys all = all
-all-back P (x ∷ xs) ys all = all-back P xs ys all.1
 
 all-weaker : {X : Type 0} (P Q : X → Type 0) → ((x : X) → P x → Q x) → (xs : List X) → AllByRecursion P xs → AllByRecursion Q xs
 all-weaker P Q weaker [] all = tt

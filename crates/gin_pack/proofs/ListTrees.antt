@@ -1,6 +1,6 @@
 -- The pages of a posting tree.
-use Rattle.std.proofs.Common.{◌≡◌, ℕ, suc, ◌+◌, ◌-◌, ◌*◌, ◌/◌, ◌%◌, ◌≤◌, Bool, true, false, List, [], ◌∷◌, ◌++◌, length, refl, sym, ap, subst, ◌∙◌, add-one, arith, length-append, inl, inr}
-use Rattle.std.specs.Prelude.{cond, nat_lt, Option, map}
+use Rattle.std.proofs.Common.{◌≡◌, ℕ, suc, ◌+◌, ◌-◌, ◌*◌, ◌%◌, ◌≤◌, List, [], ◌∷◌, ◌++◌, length, refl, sym, ap, subst, ◌∙◌, add-one, arith, length-append, inl, inr}
+use Rattle.std.specs.Prelude.{Option, map}
 use Rattle.std.specs.List.{AllByRecursion, flat_map, range_with_len, sum_by}
 use Rattle.std.proofs.lemmas.List.Concat.{flat_map-cons, length-flat_map}
 use Rattle.std.proofs.lemmas.List.Sums.{sum_by-cons}
@@ -9,7 +9,6 @@ use Rattle.pg_bytes.proofs.ItemPage.{length-page_header}
 use Rattle.pg_bytes.proofs.Writes.{length-number_bytes, length-zeros}
 use Rattle.pg_bytes.specs.Blocks.{block_count}
 use Rattle.pg_bytes.specs.PageLayout.{page_header, page_size}
-use Rattle.pg_bytes.specs.Numbers.{number_bytes}
 use Rattle.pg_bytes.specs.Places.{zeros}
 use Rattle.pg_bytes.specs.Pointers.{row_pointer_bytes}
 use Rattle.pg_bytes.specs.declared.row_ptr.RowPtr.{RowPtr}
@@ -17,7 +16,7 @@ use Rattle.btree_item.proofs.Sizes.{length-row_pointer}
 use Rattle.posting_tree.specs.Levels.{AreAbove, AreLevel, Downlink, IsTree, Kind, Node, Page, Tree, fill, nodes_linked, nodes_of, nodes_of_level, no_link, to_say}
 use Rattle.posting_tree.specs.PostingTree.{data_page, inner_kind, leaf_kind, posting_item}
 use Rattle.posting_tree.specs.Reading.{StandIn}
-use Rattle.posting_tree.specs.Segments.{deltas_behind, groups, number_of, segment, segment_from, varbyte}
+use Rattle.posting_tree.specs.Segments.{segment}
 use Rattle.posting_tree.specs.Special.{special_space}
 use Rattle.gin_pack.specs.File.{IsBlockOf}
 use Rattle.gin_pack.specs.Pass.Storing.{IsWithin}

@@ -128,8 +128,8 @@ puts-tree old new posting root listed large whole begun adds tuple kind leaves e
 -- the tuple of an entry that is stored
 pub stored-tuple : (kind : ColType) (file : List ℕ) (posting : Posting) (apart : Option ListTree)
     → IsStoredIn kind file (record { posting = posting; apart = apart }) → IsTuple (tuple_of kind (record { posting = posting; apart = apart }))
-stored-tuple kind file posting None is = list-is_tuple kind posting.entry posting.pointers is.listed.is_entry is.list
-stored-tuple kind file posting (Some apart) is = leading-is_tuple kind posting.entry _ is.listed.is_entry is.listed.small
+stored-tuple kind file posting None is = list-is_tuple kind posting.entry posting.pointers is.listed.is_entry.entry_is is.list
+stored-tuple kind file posting (Some apart) is = leading-is_tuple kind posting.entry _ is.listed.is_entry.entry_is is.listed.small
 
 pub names : (kind : ColType) (entry : Entry) (bytes : List ℕ) → IsEntry entry → entry_size kind entry ≤ most_size
     → bytes ≡ leading_tuple kind entry (record { block = 0; offset = 0 }) → NamesEntry kind entry bytes
