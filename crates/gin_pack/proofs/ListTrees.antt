@@ -18,7 +18,6 @@ use Rattle.posting_tree.specs.PostingTree.{data_page, inner_kind, leaf_kind, pos
 use Rattle.posting_tree.specs.Reading.{StandIn}
 use Rattle.posting_tree.specs.Segments.{segment}
 use Rattle.posting_tree.specs.Special.{special_space}
-use Rattle.gin_pack.specs.File.{IsBlockOf}
 use Rattle.gin_pack.specs.Pass.Storing.{IsWithin}
 use Rattle.gin_pack.proofs.Blocks.{AreSized, FollowFrom, all-append, bytes_of, each-node, length-bytes_of, stand-behind}
 use Rattle.gin_file.proofs.SpecialSpaces.{length-special_space}
@@ -99,11 +98,6 @@ follow-range block (node ∷ nodes) same =
     let first : node.block ≡ block = cc in
     let rest : map (λ (n : Node). n.block) nodes ≡ range_with_len (block + 1) (length nodes) = cc in
     (first, follow-range (suc block) nodes (rest ∙ ap (λ (b : ℕ). range_with_len b (length nodes)) (add-one block)))
-
--- pages behind the root have blocks of the file
-pub within-blocks : (file : List ℕ) (nodes : List Node) → AllByRecursion (IsWithin file) nodes → AllByRecursion (IsBlockOf file) nodes
-within-blocks file [] all = tt
-within-blocks file (node ∷ nodes) all = (let below = all.0.below in omega arith, within-blocks file nodes all.1)
 
 -- a tree that was added stands in the file, behind its old blocks
 pub record Stands (old new : List ℕ) (nodes : List Node) : Type 0 where
