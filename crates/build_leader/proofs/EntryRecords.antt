@@ -1,12 +1,12 @@
 -- The records of the entries of a heap's rows: what a GIN index is packed from.
-use Rattle.std.proofs.Common.{◌≡◌, ◌≢◌, ℕ, ◌+◌, ◌-◌, ◌^◌, ◌<◌, ◌≤◌, List, [], ◌∷◌, ◌++◌, length, map, Some, refl, sym, ap, ap₂, subst, ◌∙◌, inl, inr, arith, All, Less, Equal}
+use Rattle.std.proofs.Common.{◌≡◌, ◌≢◌, ℕ, ◌+◌, ◌-◌, ◌^◌, ◌<◌, ◌≤◌, List, [], ◌∷◌, ◌++◌, length, map, Some, true, refl, sym, ap, ap₂, subst, ◌∙◌, inl, inr, arith, All, Less, Equal}
 use Rattle.std.specs.Prelude.{filter_map, option_map, slice_get, slice_index_or}
 use Rattle.std.specs.List.{AllZip, flat_map, range_with_len}
 use Rattle.std.specs.List.Sorted.{IsPermutation, IsStrictlySortedBy}
 use Rattle.std.proofs.lemmas.Bool.{cases_lt}
 use Rattle.std.proofs.lemmas.Cmp.{tied_itself}
 use Rattle.std.proofs.lemmas.List.{length-map}
-use Rattle.std.proofs.lemmas.List.Elements.{All-append, All-cons, All-from_get_or, All-from_recursion, All-head, All-map, All-nil, All-same, All-tail, All-weaker, Contains-get_or}
+use Rattle.std.proofs.lemmas.List.Elements.{All-append, All-cons, All-contains, All-from_get_or, All-from_recursion, All-head, All-map, All-nil, All-same, All-tail, All-weaker, Contains-get_or}
 use Rattle.std.proofs.lemmas.List.FromFn.{get_or-range_with_len, length-range_with_len}
 use Rattle.std.proofs.lemmas.List.Sorted.{All-permutation}
 use Rattle.std.proofs.lemmas.Map.Keys.{sorted_head, sorted_tail}
@@ -18,13 +18,19 @@ use Rattle.opclass.specs.declared.spec.KeyCol.{KeyCol}
 use Rattle.opclass.specs.declared.table.Column.{Column}
 use Rattle.opclass.specs.declared.table.Table.{Table}
 use Rattle.opclass.specs.declared.types.ColType.{ColType}
+use Rattle.opclass.specs.declared.types.ColType.TheVariants as ty
+use Rattle.opclass.specs.declared.types.Form.{Form}
+use Rattle.opclass.specs.declared.types.Form.TheVariants.{Array}
+use Rattle.opclass.specs.declared.types.Method.{Method}
+use Rattle.opclass.specs.declared.types.Method.TheVariants as method
 use Rattle.opclass.specs.declared.value.Elem.{Elem}
 use Rattle.opclass.specs.declared.value.Elem.TheVariants as elem
 use Rattle.opclass.specs.declared.value.KeyVal.{KeyVal}
 use Rattle.opclass.specs.declared.value.KeyVal.TheVariants.{Nil, Num, Raw, Items}
 use Rattle.opclass.specs.Filter.{value_of}
-use Rattle.opclass.specs.Indexes.{IsIndexOver}
-use Rattle.opclass.specs.Values.{IsValueOf}
+use Rattle.opclass.specs.Indexes.{IsIndexOver, IsKeyOf}
+use Rattle.opclass.specs.Types.{facts_of, takes_key}
+use Rattle.opclass.specs.Values.{IsArrayOf, IsElementOf, IsValueOf}
 use Rattle.heap_page.specs.Fault.{IsSoundPage}
 use Rattle.heap_page.specs.Line.{IsLine}
 use Rattle.heap_page.proofs.Sound.{sound-line}
@@ -32,7 +38,9 @@ use Rattle.hot_chain.specs.Chain.{IsHead, Own, Redirected}
 use Rattle.hot_chain.specs.Roots.{IsLive, IsRoot, Row}
 use Rattle.heap_row.specs.Typed.{AreReadOf, ElementHasAtMost, HasAtMost, IsReadOf}
 use Rattle.gin_entry.specs.declared.entry.Entry.{Entry}
-use Rattle.gin_entry.specs.Entries.{HasEntry, entries}
+use Rattle.gin_entry.specs.declared.entry.Category.{Category}
+use Rattle.gin_entry.specs.declared.entry.Category.TheVariants.{EmptyItem, NullItem}
+use Rattle.gin_entry.specs.Entries.{HasEntry, entries, entry_of, placeholder}
 use Rattle.gin_entry.specs.EntryOrder.{entry_cmp, entry_order}
 use Rattle.gin_entry.specs.EntrySize.{entry_size}
 use Rattle.gin_entry.proofs.EntryOrders.{entry_cmp_total, same_entry}
@@ -46,7 +54,7 @@ use Rattle.spool.proofs.Storable.{entries_storable}
 use Rattle.run_merge.specs.Sorted.{AreApart, row_of}
 use Rattle.run_merge.proofs.Sorting.{Pairs, Pairs-from, Pairs-moved, Pairs-to}
 use Rattle.gin_file.specs.EntryTuple.{most_size}
-use Rattle.gin_file.specs.Entry.{IsEntry}
+use Rattle.gin_file.specs.Entry.{IsEntry, IsEntryOf, IsKeyOf as IsEntryKey}
 use Rattle.gin_pack.specs.Records.{IsEntryRecord}
 use Rattle.build_leader.specs.Blocks.{IsHeapFile, most_blocks}
 use Rattle.build_leader.specs.Entries.{HasWideEntry, array_of, row_entries, rows_entries}
@@ -169,14 +177,77 @@ is_entry (Raw bytes) entry has = absurd has
 is_entry (Items []) entry has = inr (inl has)
 is_entry (Items (element ∷ elements)) entry has = inl (has.1, has.4)
 
+-- the key of an element's entry is of the type of elements
+element_key : (element : ColType) (each : Elem) → IsElementOf element each → IsValueOf element (entry_of each).key
+element_key element elem.Null its = tt
+element_key element (elem.Num number) its = its
+element_key element (elem.Raw bytes) its = its
+
+-- and the null of an entry without a key is a value of each type
+placeholder_key : (element : ColType) (entry : Entry) (category : Category) → entry ≡ placeholder category → IsValueOf element entry.key
+placeholder_key element entry category is = subst (λ (e : Entry). IsValueOf element e.key) (sym is) tt
+
+-- an entry of a column's value has a key of the type of elements
+has_key : (element : ColType) (value : KeyVal) (entry : Entry) → ((elements : List Elem) → value ≡ Items elements → All (IsElementOf element) elements)
+    → HasEntry value entry → IsValueOf element entry.key
+has_key element Nil entry its has = placeholder_key element entry NullItem has
+has_key element (Num number) entry its has = absurd has
+has_key element (Raw bytes) entry its has = absurd has
+has_key element (Items []) entry its has = placeholder_key element entry EmptyItem has
+has_key element (Items (first ∷ elements)) entry its has =
+    let each : IsElementOf element has.1 =
+    All-contains (IsElementOf element) (first ∷ elements) has.1 (its (first ∷ elements) refl) (has.0, has.2, has.3) in
+    subst (λ (e : Entry). IsValueOf element e.key) (sym has.4) (element_key element has.1 each)
+
+-- the elements of an array that a column has
+elements_of : (kind element : ColType) (value : KeyVal) → (facts_of kind).form ≡ Array element → IsValueOf kind value
+    → (elements : List Elem) → value ≡ Items elements → All (IsElementOf element) elements
+elements_of kind element value form typed elements is =
+    subst (λ (f : Form). IsArrayOf f elements) form (subst (IsValueOf kind) is typed)
+
+-- what a value of a column has is an entry of the column
+entry_of_column : (kind element : ColType) (value : KeyVal) (entry : Entry) → (facts_of kind).form ≡ Array element → IsValueOf kind value
+    → HasEntry value entry → IsEntryOf kind entry
+entry_of_column kind element value entry form typed has = record {
+  entry_is = is_entry value entry has;
+  key = subst (λ (f : Form). IsEntryKey f entry.key) (sym form) (has_key element value entry (elements_of kind element value form typed) has);
+}
+
+-- a type of which GIN takes a column is one of arrays
+an_array : (kind : ColType) → takes_key method.Gin (facts_of kind).key_use ≡ true → (element : ColType) × ((facts_of kind).form ≡ Array element)
+an_array ty.Bool taken = absurd cc
+an_array ty.Int2 taken = absurd cc
+an_array ty.Int4 taken = absurd cc
+an_array ty.Int8 taken = absurd cc
+an_array ty.Oid taken = absurd cc
+an_array ty.Date taken = absurd cc
+an_array ty.Timestamp taken = absurd cc
+an_array ty.Timestamptz taken = absurd cc
+an_array ty.Time taken = absurd cc
+an_array ty.Uuid taken = absurd cc
+an_array ty.Text taken = absurd cc
+an_array ty.Varchar taken = absurd cc
+an_array ty.Bytea taken = absurd cc
+an_array ty.Float4 taken = absurd cc
+an_array ty.Float8 taken = absurd cc
+an_array ty.Numeric taken = absurd cc
+an_array ty.Bpchar taken = absurd cc
+an_array ty.Name taken = absurd cc
+an_array ty.Interval taken = absurd cc
+an_array ty.Json taken = absurd cc
+an_array ty.Jsonb taken = absurd cc
+an_array ty.Int4Array taken = (ty.Int4, refl)
+an_array ty.Int8Array taken = (ty.Int8, refl)
+an_array ty.TextArray taken = (ty.Text, refl)
+
 -- a row whose pointer a posting list may have
 pub record IsListed (row : Record) : Type 0 where
   pub pointer : IsStorable row.ptr
   pub block : row.ptr.block < 2 ^ 32
 
-row_records : (kind : ColType) (row : Record) → IsListed row → (HasWideEntry (kind ∷ []) (array_of row ∷ []) → ⊥)
+row_records : (kind element : ColType) (row : Record) → (facts_of kind).form ≡ Array element → IsValueOf kind (array_of row) → IsListed row → (HasWideEntry (kind ∷ []) (array_of row ∷ []) → ⊥)
     → All (IsEntryRecord kind) (row_entries row)
-row_records kind row listed small =
+row_records kind element row form typed listed small =
     All-map (IsEntryRecord kind) (entry_record row.ptr) (entries (array_of row))
     (λ k d inside.
     let entry : Entry = slice_index_or (entries (array_of row)) k d in
@@ -185,7 +256,7 @@ row_records kind row listed small =
     record {
       entry = entry;
       keys = refl;
-      is_entry = is_entry (array_of row) entry has;
+      is_entry = entry_of_column kind element (array_of row) entry form typed has;
       small = elim (cases_lt most_size (entry_size kind entry)) [
         | inl wide ↦ absurd (small (entry, has, wide))
         | inr fits ↦ fits
@@ -215,13 +286,48 @@ no_item : (values : List KeyVal) → length values ≡ 0 → values ≡ []
 no_item [] count = refl
 no_item (value ∷ values) count = absurd (omega (arith, count))
 
+-- the types of columns
+abbrev kinds_at : List Column → List ℕ → List ColType
+kinds_at columns numbers = filter_map (λ number. option_map (λ column. column.kind) (slice_get columns (number - 1))) numbers
+
+-- a number is that of a column that GIN takes
+abbrev IsKeyColumn : List Column → ℕ → Type 0
+IsKeyColumn columns number =
+    (column : Column) × (slice_get columns (number - 1) ≡ Some column) × (takes_key method.Gin (facts_of column.kind).key_use ≡ true)
+
+-- the column of the first key
+first_kind : (columns : List Column) (keys : List KeyCol) (includes : List ℕ) (kind : ColType)
+    → kinds_at columns (map (λ key. key.column) keys ++ includes) ≡ kind ∷ [] → 0 < length keys
+    → All (λ key. IsKeyColumn columns key.column) keys → takes_key method.Gin (facts_of kind).key_use ≡ true
+first_kind columns [] includes kind one some all = absurd (omega (arith, some))
+first_kind columns (key ∷ keys) includes kind one some all =
+    let first = All-head (λ (k : KeyCol). IsKeyColumn columns k.column) key keys all in
+    let found = first.1 in
+    let turned : first.0.kind ∷ kinds_at columns (map (λ k. k.column) keys ++ includes) ≡ kind ∷ [] = rw found at one in
+    let same : first.0.kind ≡ kind = cc in
+    subst (λ (k : ColType). takes_key method.Gin (facts_of k).key_use ≡ true) same first.2
+
 module _ (table : Table) (spec : IndexSpec) (kind : ColType) (over : IsIndexOver table spec)
-    (one : index_kinds table spec ≡ kind ∷ []) where
+    (one : index_kinds table spec ≡ kind ∷ []) (gin : spec.method ≡ method.Gin) where
+  -- the column is one of arrays
+  array : (element : ColType) × ((facts_of kind).form ≡ Array element)
+  array =
+      an_array kind (first_kind table.columns spec.keys spec.includes kind one over.some
+      (All-weaker (λ (key : KeyCol). IsKeyOf table spec.method key.column) (λ (key : KeyCol). IsKeyColumn table.columns key.column)
+      (λ key its. (its.column, its.found, subst (λ (m : Method). takes_key m (facts_of its.column.kind).key_use ≡ true) gin its.taken))
+      spec.keys over.keys))
+
   -- no live item of a page has an entry that is too large
   abbrev pub NoneWide : List ℕ → Type 0
   NoneWide page =
       (item : ℕ) (keys extra : List KeyVal) → IsLive page item → HasIndexValues table spec page item keys extra
       → HasWideEntry (index_kinds table spec) (keys ++ extra) → ⊥
+
+  -- what the index has of the items of a page was read of its columns
+  abbrev pub AreRead : List ℕ → Type 0
+  AreRead page =
+      (item : ℕ) (keys extra : List KeyVal) → HasIndexValues table spec page item keys extra
+      → AreReadOf table.columns page_size (index_columns spec) (keys ++ extra)
 
   -- an index over one column has one value of an item
   one_value : (page : List ℕ) (item : ℕ) (keys extra : List KeyVal) → HasIndexValues table spec page item keys extra
@@ -240,7 +346,7 @@ module _ (table : Table) (spec : IndexSpec) (kind : ColType) (over : IsIndexOver
   Taken row = All (IsEntryRecord kind) (row_entries row)
 
   module _ (page : List ℕ) (block : ℕ) (sound : IsSoundPage page (length table.columns)) (few : block < 2 ^ 32)
-      (none : NoneWide page) where
+      (none : NoneWide page) (read : AreRead page) where
     taken : (row : Row) (record' : Record) → IsLive page row.item × IsRoot page row.item row.root
         → IsIndexRow table spec page block row record' → Taken record'
     taken row record' known is =
@@ -253,7 +359,11 @@ module _ (table : Table) (spec : IndexSpec) (kind : ColType) (over : IsIndexOver
         let first = line.0 in
         let offset : IsStorable (record { block = block; offset = row.root }) =
         record { from = first; below = omega (arith, place) } in
-        row_records kind record'
+        let typed : AllZip IsValueOf (kind ∷ []) (array_of record' ∷ []) =
+        subst (λ kinds. AllZip IsValueOf kinds (array_of record' ∷ [])) one
+        (subst (AllZip IsValueOf (index_kinds table spec)) both
+        (typed_values table spec page_size (record'.keys ++ record'.extra) (read row.item record'.keys record'.extra is.values))) in
+        row_records kind array.0 record' array.1 typed.0
         (record {
           pointer = subst IsStorable (sym is.pointer) offset;
           block = subst (λ (ptr : RowPtr). ptr.block < 2 ^ 32) (sym is.pointer) few;
@@ -281,11 +391,12 @@ module _ (table : Table) (spec : IndexSpec) (kind : ColType) (over : IsIndexOver
       pub sound : IsSoundBlock table spec (block_at block heap)
       pub few : block < 2 ^ 32
       pub none : NoneWide (block_at block heap)
+      pub read : AreRead (block_at block heap)
 
     block_taken : (block : ℕ) (records : List Record) → IsReadable block → AreBlockRows table spec heap block records
         → All Taken records
     block_taken block records can are =
-        all_taken (block_at block heap) block can.sound.sound can.few can.none are.0 records are.1.each are.2
+        all_taken (block_at block heap) block can.sound.sound can.few can.none can.read are.0 records are.1.each are.2
 
     blocks_taken : (blocks : List ℕ) (records : List Record) → All IsReadable blocks
         → AreRowsOfBlocks table spec heap blocks records → All Taken records
@@ -297,9 +408,9 @@ module _ (table : Table) (spec : IndexSpec) (kind : ColType) (over : IsIndexOver
 
     -- the entries of the rows of a sound heap without entries that are too large are what an index is packed from
     pub entries_are_records : (rows : List Record) → IsHeapFile heap → HasSoundBlocks table spec heap
-        → ((block : ℕ) → block < block_count heap → NoneWide (block_at block heap))
+        → ((block : ℕ) → AreRead (block_at block heap)) → ((block : ℕ) → block < block_count heap → NoneWide (block_at block heap))
         → AreHeapRows table spec heap rows → All (IsEntryRecord kind) (rows_entries rows)
-    entries_are_records rows whole sound none are =
+    entries_are_records rows whole sound read none are =
         let blocks = range_with_len 0 (block_count heap) in
         let few : block_count heap ≤ most_blocks = omega (arith, whole.0) in
         All-flat_map Taken (IsEntryRecord kind) row_entries (λ row its. its) rows
@@ -309,20 +420,20 @@ module _ (table : Table) (spec : IndexSpec) (kind : ColType) (over : IsIndexOver
         let below : i < block_count heap = omega (arith, count, inside) in
         let zero_more : 0 + i ≡ i = omega arith in
         subst IsReadable (sym (get_or-range_with_len 0 (block_count heap) i 0 below ∙ zero_more))
-        (record { sound = sound i below; few = omega (arith, few, below); none = none i below })))
+        (record { sound = sound i below; few = omega (arith, few, below); none = none i below; read = read i })))
         are)
 
     -- in whatever order they are
     pub are_entries : (rows records : List Record) → IsHeapFile heap → HasSoundBlocks table spec heap
-        → ((block : ℕ) → block < block_count heap → NoneWide (block_at block heap))
+        → ((block : ℕ) → AreRead (block_at block heap)) → ((block : ℕ) → block < block_count heap → NoneWide (block_at block heap))
         → AreHeapRows table spec heap rows → IsPermutation (rows_entries rows) records
         → length records < most_records → AreEntries (index_kinds table spec) entry_order records
-    are_entries rows records whole sound none are same few = record {
+    are_entries rows records whole sound read none are same few = record {
       kind = kind;
       one = one;
       order = refl;
       entries = All-permutation (IsEntryRecord kind) (rows_entries rows) records same
-          (entries_are_records rows whole sound none are);
+          (entries_are_records rows whole sound read none are);
       apart = apart_permuted (rows_entries rows) records same
           (entries_apart rows (heap_pointers_differ table spec heap rows sound are));
       few = few;

@@ -43,7 +43,7 @@ use Rattle.build_leader.proofs.EntryRows.{is_gin_index}
 use Rattle.build_leader.proofs.Fitting.{few_keys, told_fit}
 use Rattle.build_leader.proofs.Holding.{held_are_summaries}
 use Rattle.build_leader.proofs.IndexRecords.{are_columns, heap_rows_taken, kinds_count}
-use Rattle.build_leader.proofs.ReadRows.{heap_rows_short}
+use Rattle.build_leader.proofs.ReadRows.{heap_rows_short, values_read}
 use Rattle.build_leader.proofs.Sinking.{hold_as}
 
 -- ---- what holds of a result
@@ -247,9 +247,11 @@ module _ (plan : Plan) (heap : List ℕ) (tapes : List (List RunView)) (ranges :
         only (kind ∷ []) one = (kind, refl)
         only (kind ∷ other ∷ more) one = absurd (omega (arith, one))
 
-    pub entries_on_tapes : length (all_records tapes) < most_records → AreEntries kinds entry_order (all_records tapes)
-    entries_on_tapes few =
-        are_entries plan.table spec one_kind.0 well.index one_kind.1 heap have.rows (all_records tapes) have.whole have.sound
+    pub entries_on_tapes : All (λ byte. byte < 256) heap → length (all_records tapes) < most_records
+        → AreEntries kinds entry_order (all_records tapes)
+    entries_on_tapes bytes few =
+        are_entries plan.table spec one_kind.0 well.index one_kind.1 gin_is heap have.rows (all_records tapes) have.whole have.sound
+        (values_read plan.table spec heap bytes)
         (λ block below item keys extra live has wide.
         (have.sound block below).items item (TooWide width.Entry) (live, (keys, extra, has, (gin_is, wide))))
         have.of_heap on_entry_tapes few

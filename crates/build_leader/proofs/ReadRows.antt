@@ -84,12 +84,16 @@ module _ (table : Table) (spec : IndexSpec) where
         (All-drop IsByte _ (item_of page item) (All-take IsByte _ (drop _ page) (All-drop IsByte _ page bytes)))
         inside (needed_columns table spec) read
 
-    row_read : (item : ℕ) (row : Record) → HasIndexValues table spec page item row.keys row.extra → IsReadRow row
-    row_read item row has =
+    both_lists : (item : ℕ) (keys extra : List KeyVal) → HasIndexValues table spec page item keys extra
+        → AreReadOf table.columns page_size (index_columns spec) (keys ++ extra)
+    both_lists item keys extra has =
         let read = item_read item has.values has.read in
-        both_read table.columns page_size (key_columns spec) spec.includes row.keys row.extra
-        (of_columns table.columns page_size (needed_of table spec) has.values (key_columns spec) row.keys read has.keys_are)
-        (of_columns table.columns page_size (needed_of table spec) has.values spec.includes row.extra read has.extra_are)
+        both_read table.columns page_size (key_columns spec) spec.includes keys extra
+        (of_columns table.columns page_size (needed_of table spec) has.values (key_columns spec) keys read has.keys_are)
+        (of_columns table.columns page_size (needed_of table spec) has.values spec.includes extra read has.extra_are)
+
+    row_read : (item : ℕ) (row : Record) → HasIndexValues table spec page item row.keys row.extra → IsReadRow row
+    row_read item row has = both_lists item row.keys row.extra has
 
     rows_read : (block : ℕ) (rows : List Row) (records : List Record) → AreIndexRows table spec page block rows records
         → All IsReadRow records
@@ -107,6 +111,11 @@ module _ (table : Table) (spec : IndexSpec) where
     page_short : (block : ℕ) → length (block_at block heap) ≤ page_size
     unfolding block_at
     page_short block = let size = length-take page_size (drop (page_size * block) heap) in omega arith
+
+    -- what an index has of an item was read of its columns
+    pub values_read : (block item : ℕ) (keys extra : List KeyVal) → HasIndexValues table spec (block_at block heap) item keys extra
+        → AreReadOf table.columns page_size (index_columns spec) (keys ++ extra)
+    values_read block item keys extra has = both_lists (block_at block heap) (page_bytes block) (page_short block) item keys extra has
 
     blocks_read : (blocks : List ℕ) (records : List Record) → AreRowsOfBlocks table spec heap blocks records
         → All IsReadRow records

@@ -41,9 +41,10 @@ pub(crate) fn pack_taken<Rt: Threads + Sync>(
     ensures packed { IfOk result (IsPackedOf plan.now heap.now rows) }
     ensures refused { IfErr result (IsLeadFault plan.now heap.now) }
 {
+    let blocks = count_blocks(heap);
     match plan.spec.method {
         Method::BTree => pack_rows(rt, alloc, plan, tapes, rows),
-        Method::Brin => pack_summaries(alloc, plan, count_blocks(heap), ranges),
+        Method::Brin => pack_summaries(alloc, plan, blocks, ranges),
         Method::Gin => pack_postings(rt, alloc, plan, tapes),
     }
 }

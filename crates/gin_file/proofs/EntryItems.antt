@@ -115,7 +115,7 @@ pointers-only kind bytes slice entry (Err e) only is = tt
 -- ---- any tuple
 
 -- it begins with an entry
-pub tuple-begins : (kind : ColType) (leaf : Bool) (bytes : List ℕ) (said : EntryItem) → IsTupleOf kind leaf bytes said
+unfoldable pub tuple-begins : (kind : ColType) (leaf : Bool) (bytes : List ℕ) (said : EntryItem) → IsTupleOf kind leaf bytes said
     → (entry : Entry) × BeginsWithEntry kind bytes entry
 tuple-begins kind true bytes (item.List entry pointers) t = (entry, list-begins kind bytes entry pointers t)
 tuple-begins kind true bytes (item.Tree entry root) t =
@@ -142,13 +142,13 @@ tuple-small kind false bytes (item.Inner entry child) t =
     omega arith
 
 -- what stands in the place of its row pointer
-leading-front : (kind : ColType) (bytes : List ℕ) (entry : Entry) (front : RowPtr) → IsEntryOf kind entry → entry_size kind entry < 2 ^ 13
+pub leading-front : (kind : ColType) (bytes : List ℕ) (entry : Entry) (front : RowPtr) → IsEntryOf kind entry → entry_size kind entry < 2 ^ 13
     → bytes ≡ leading_tuple kind entry front → front.block < 2 ^ 32 → front.offset < 2 ^ 16 → row_pointer_at bytes 0 ≡ front
 unfolding leading-begins
 leading-front kind bytes entry front is small are block offset =
     front-read kind bytes entry (leading-begins kind bytes entry front is small are) block offset
 
-list-offset : (kind : ColType) (bytes : List ℕ) (entry : Entry) (pointers : List RowPtr) → IsTupleOf kind true bytes (item.List entry pointers)
+pub list-offset : (kind : ColType) (bytes : List ℕ) (entry : Entry) (pointers : List RowPtr) → IsTupleOf kind true bytes (item.List entry pointers)
     → (row_pointer_at bytes 0).offset ≡ length pointers
 unfolding list-begins
 list-offset kind bytes entry pointers t =

@@ -8,6 +8,10 @@ pub mod MetaWrites
 -- the segment at the front of bytes
 pub mod SegmentFronts
 -- the entry at the front of a tuple
-mod TupleFronts
+pub mod TupleFronts
 -- what a tuple says
-mod EntryItems
+pub mod EntryItems
+-- that it says one thing
+mod OneItem
+-- that a file has one map
+mod OneMap

@@ -88,7 +88,7 @@ front-of bytes ptrs b =
     }
 
 -- pointers of one segment
-one-segment : (bytes : List ℕ) (ptrs : List RowPtr) → BeginsWithSegment bytes ptrs → AreSegmentsOf ptrs (segment ptrs)
+pub one-segment : (bytes : List ℕ) (ptrs : List RowPtr) → BeginsWithSegment bytes ptrs → AreSegmentsOf ptrs (segment ptrs)
 one-segment bytes ptrs b = record {
   ascending = b.ascending;
   blocks = b.blocks;

@@ -14,3 +14,5 @@ pub mod Meta
 pub mod Reading
 -- what the reading of a tuple keeps
 pub mod Pass
+-- what holds of all these
+pub mod Laws

@@ -15,7 +15,9 @@
 //!
 //! The reading of a file (`specs/EntryTree`, `specs/Reading`) is said of bytes and knows nothing of
 //! how they came: down first children from block 1 to a leaf, along right links, and each leaf
-//! tuple gives an entry and its pointers, from its segment or from its posting tree.
+//! tuple gives an entry and its pointers, from its segment or from its posting tree. The entry is
+//! one of the column's type, and a list or a block is within its bound (`IsTupleOf` of
+//! `specs/Item`): the bytes alone of an int4 element would also be those of a number 2^32 above.
 //!
 //! The layout in words is docs/formats/gin.md.
 //!
@@ -23,6 +25,11 @@
 //!
 //! `put_list_tuple` and `put_leading_tuple` put exactly the tuple of an entry behind the bytes of a
 //! buffer, `Counts::meta_page` makes block 0, and `special_space` what stands at a page's end.
+//! `read_entry` says what the one tuple says that has these bytes, and None where there is none.
+//!
+//! Once the column's type is known, bytes are the tuple of one item at most
+//! (`tuples_are_of_one_item`), and a file is read as one list of postings at most
+//! (`files_are_read_as_one_map`).
 //!
 //! # What is not
 //!
@@ -32,10 +39,12 @@
 
 mod entry_reading;
 mod entry_tuple;
+mod laws;
 mod meta;
 mod special;
 
 pub use entry_reading::{EntryItem, read_entry};
 pub use entry_tuple::{MOST_SIZE, list_place, put_leading_tuple, put_list_tuple};
+pub use laws::{files_are_read_as_one_map, tuples_are_of_one_item};
 pub use meta::Counts;
 pub use special::{INNER, LEAF, META, NO_LINK, SPECIAL_BYTES, SPECIAL_PLACE, special_space};

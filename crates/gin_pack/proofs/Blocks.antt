@@ -1,6 +1,7 @@
 -- Blocks of a file that grows, and what stands in it.
-use Rattle.std.proofs.Common.{◌≡◌, ◌≢◌, ℕ, zero, suc, ◌+◌, ◌-◌, ◌*◌, ◌<◌, ◌≤◌, List, [], ◌∷◌, ◌++◌, length, take, drop, refl, sym, ap, subst, ◌∙◌, arith, length-append}
-use Rattle.std.specs.List.{AllByRecursion, flat_map}
+use Rattle.std.proofs.Common.{◌≡◌, ◌≢◌, ℕ, zero, suc, ◌+◌, ◌-◌, ◌*◌, ◌<◌, ◌≤◌, List, [], ◌∷◌, ◌++◌, length, take, drop, refl, sym, ap, subst, ◌∙◌, add-one, arith, length-append}
+use Rattle.std.specs.Prelude.{map}
+use Rattle.std.specs.List.{AllByRecursion, flat_map, range_with_len}
 use Rattle.std.proofs.lemmas.List.{append_assoc, append-nil, drop-append-le, drop-drop, drop_at, length-drop, length-take-le, take-append-le, take_at}
 use Rattle.std.proofs.lemmas.List.Concat.{flat_map-cons}
 use Rattle.std.proofs.Math.Seq.{drop-append-add}
@@ -42,6 +43,24 @@ FollowFrom block (node ∷ nodes) = (node.block ≡ block) × FollowFrom (suc bl
 
 abbrev pub bytes_of : List Node → List ℕ
 bytes_of nodes = flat_map (λ node. node.bytes) nodes
+
+-- the blocks of nodes that follow one another
+pub follow-blocks : (block : ℕ) (nodes : List Node) → FollowFrom block nodes → map (λ node. node.block) nodes ≡ range_with_len block (length nodes)
+follow-blocks block [] follow = refl
+follow-blocks block (node ∷ nodes) follow =
+    ap (λ (b : ℕ). b ∷ map (λ (n : Node). n.block) nodes) follow.0
+    ∙ ap (λ (l : List ℕ). block ∷ l) (follow-blocks (suc block) nodes follow.1)
+    ∙ ap (λ (b : ℕ). block ∷ range_with_len b (length nodes)) (sym (add-one block))
+
+-- numbers and those behind them
+pub range-append : (from some more : ℕ) → range_with_len from some ++ range_with_len (from + some) more ≡ range_with_len from (some + more)
+range-append from zero more =
+    ap (λ (n : ℕ). range_with_len n more) (let e : from + 0 ≡ from = omega arith in e)
+    ∙ ap (range_with_len from) (let e : more ≡ 0 + more = omega arith in e)
+range-append from (suc some) more =
+    ap (λ (n : ℕ). from ∷ (range_with_len (from + 1) some ++ range_with_len n more)) (let e : from + suc some ≡ from + 1 + some = omega arith in e)
+    ∙ ap (λ (l : List ℕ). from ∷ l) (range-append (from + 1) some more)
+    ∙ ap (range_with_len from) (let e : suc (some + more) ≡ suc some + more = omega arith in e)
 
 pub length-bytes_of : (nodes : List Node) → AreSized nodes → length (bytes_of nodes) ≡ length nodes * 8192
 length-bytes_of [] sized = refl

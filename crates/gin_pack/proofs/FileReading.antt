@@ -1,8 +1,10 @@
 -- A file that has postings is read as them.
-use Rattle.std.proofs.Common.{◌≡◌, ℕ, ◌+◌, ◌≤◌, List, [], ◌∷◌, ◌++◌, length, refl, sym, ap, subst, ◌∙◌, arith, length-append, inl, inr}
+use Rattle.std.proofs.Common.{◌≡◌, ℕ, zero, suc, ◌+◌, ◌<◌, ◌≤◌, List, [], ◌∷◌, ◌++◌, length, refl, sym, ap, subst, ◌∙◌, arith, length-append, inl, inr}
 use Rattle.std.specs.Prelude.{◌⊎◌, IfSome, Option, Some, None, map, All}
-use Rattle.std.specs.List.{AllByRecursion, AllZip, flat_map, last_or, sum_by}
-use Rattle.std.specs.List.Sorted.{IsStrictlySortedBy}
+use Rattle.std.specs.List.{AllByRecursion, AllZip, flat_map, last_or, range_with_len, sum_by}
+use Rattle.std.specs.List.Sorted.{IsPermutation, IsStrictlySortedBy}
+use Rattle.std.proofs.lemmas.List.Elements.{All-from_recursion, recursion_from_All}
+use Rattle.std.proofs.lemmas.List.Sorted.{All-permutation, IsPermutation-sym}
 use Rattle.std.proofs.lemmas.List.{map-append}
 use Rattle.std.proofs.lemmas.List.Concat.{flat_map-cons}
 use Rattle.std.proofs.lemmas.List.Sums.{sum_by-cons}
@@ -13,48 +15,138 @@ use Rattle.gin_entry.specs.EntryMap.{IsPostingList, Posting}
 use Rattle.gin_entry.specs.EntryOrder.{entry_cmp}
 use Rattle.gin_entry.specs.EntrySize.{entry_size}
 use Rattle.posting_tree.specs.Laws.{IsSeenAbove}
-use Rattle.posting_tree.specs.Levels.{AreAbove, AreLevel, Downlink, IsEmptyRoot, IsPage, Kind, Node, Page, Tree, items_of, no_link, nodes_of_level, said, to_say}
+use Rattle.posting_tree.specs.Levels.{AreAbove, AreLevel, Downlink, IsEmptyRoot, IsPage, IsRootOf, Kind, Node, Page, Tree, items_of, no_link, nodes_linked, nodes_of, nodes_of_level, said, to_say, top_of}
+use Rattle.posting_tree.specs.PostingTree.{inner_kind as list_inner_kind, leaf_kind as list_leaf_kind}
 use Rattle.posting_tree.specs.Reading.Sight.{SeenLeaf}
 use Rattle.posting_tree.specs.Special.{leaf_flag}
 use Rattle.posting_tree.proofs.PostingReading.{all-pages, standing-is-read}
 use Rattle.posting_tree.proofs.TreeReading.{trees-are-read}
 use Rattle.gin_file.specs.EntryTree.{Item, entry_page, entry_sight, inner_flags, inner_kind, item_size, leaf_kind, link_item}
 use Rattle.gin_file.specs.EntryTuple.{inner_tuple, most_size, IsTuple}
-use Rattle.gin_pack.specs.File.{HasPostings, IsStored, ListTree, Stored, item_of, pages_apart, tuple_of}
+use Rattle.gin_pack.specs.File.{HasPostings, IsStored, ListTree, Stored, blocks_had, blocks_of, item_of, nodes_apart, pages_apart, tuple_of}
 use Rattle.gin_file.specs.Reading.{IsReadAsPostings, Tells}
 use Rattle.gin_file.specs.Entry.{IsEntry}
 use Rattle.gin_pack.specs.Pass.Placing.{HaveRoom}
 use Rattle.gin_pack.specs.Postings.{IsListed}
+use Rattle.gin_file.proofs.EntryItems.{listed as listed-in}
 use Rattle.gin_file.proofs.EntryTuples.{leading-is_tuple, list-is_tuple}
 use Rattle.gin_pack.proofs.Fillings.{fill-is, tuples_of}
 use Rattle.gin_pack.proofs.PageReading.{inner-seen, leaf-seen}
 use Rattle.gin_pack.proofs.Rising.{length-nodes}
 
+-- ---- lists
+
+all-front : {X : Type 0} (P : X → Type 0) (xs ys : List X) → AllByRecursion P (xs ++ ys) → AllByRecursion P xs
+all-front P [] ys all = tt
+all-front P (x ∷ xs) ys all = (all.0, all-front P xs ys all.1)
+
+all-back : {X : Type 0} (P : X → Type 0) (xs ys : List X) → AllByRecursion P (xs ++ ys) → AllByRecursion P ys
+all-back P [] ys all = all
+all-back P (x ∷ xs) ys all = all-back P xs ys all.1
+
+-- ---- the blocks of a file
+
+-- a page has one of so many blocks
+abbrev IsBelow : ℕ → Node → Type 0
+IsBelow most node = node.block < most
+
+numbers-below : (most from count : ℕ) → from + count ≤ most → AllByRecursion (λ block. block < most) (range_with_len from count)
+numbers-below most from zero fits = tt
+numbers-below most from (suc count) fits = (omega arith, numbers-below most (from + 1) count (omega arith))
+
+nodes-below : (most : ℕ) (nodes : List Node) → AllByRecursion (λ block. block < most) (blocks_of nodes) → AllByRecursion (IsBelow most) nodes
+nodes-below most [] all = tt
+nodes-below most (node ∷ nodes) all = (all.0, nodes-below most nodes all.1)
+
+-- blocks that are those of a file, each once, are below its count
+had-below : (most : ℕ) (blocks : List ℕ) → IsPermutation blocks (range_with_len 0 most) → AllByRecursion (λ block. block < most) blocks
+had-below most blocks same =
+    let Below : ℕ → Type 0 = λ block. block < most in
+    recursion_from_All Below blocks
+    (All-permutation Below (range_with_len 0 most) blocks (IsPermutation-sym blocks (range_with_len 0 most) same)
+    (All-from_recursion Below (range_with_len 0 most) (numbers-below most 0 most (omega arith))))
+
+-- ---- the root of a tree
+
+-- the blocks of a level's pages are those of its nodes
+level-inside : {I K : Type 0} (most : ℕ) (kind : Kind I K) (link : ℕ) (pages : List (Page I)) → AllByRecursion (λ node. node.block < most) (nodes_linked kind link pages)
+    → AllByRecursion (λ block. block < most) (map (λ page. page.block) pages)
+level-inside most kind link [] all = tt
+level-inside most kind link (page ∷ pages) all = (all.0, level-inside most kind link pages all.1)
+
+top-inside : {K : Type 0} (most : ℕ) (inner : Kind (Downlink K) K) (blocks : List ℕ) (above : List (List (Page (Downlink K)))) (root : ℕ)
+    → AllByRecursion (λ block. block < most) blocks → AllByRecursion (λ node. node.block < most) (flat_map (nodes_of_level inner) above)
+    → top_of blocks above ≡ root ∷ [] → root < most
+top-inside most inner blocks [] root here all is = (subst (AllByRecursion (λ block. block < most)) is here).0
+top-inside most inner blocks (pages ∷ above) root here all is =
+    let both = subst (AllByRecursion (λ node. node.block < most)) (flat_map-cons (nodes_of_level inner) pages above) all in
+    top-inside most inner (map (λ page. page.block) pages) above root
+    (level-inside most inner no_link pages (all-front (λ (n : Node). n.block < most) (nodes_of_level inner pages) (flat_map (nodes_of_level inner) above) both))
+    (all-back (λ (n : Node). n.block < most) (nodes_of_level inner pages) (flat_map (nodes_of_level inner) above) both)
+    is
+
+-- the root of a tree has one of its blocks
+root-inside : {L K : Type 0} (most : ℕ) (leaf : Kind L K) (inner : Kind (Downlink K) K) (tree : Tree L K) (root : ℕ)
+    → AllByRecursion (λ node. node.block < most) (nodes_of leaf inner tree) → IsRootOf tree root → root < most
+root-inside most leaf inner tree root all is =
+    let leaves : List Node = nodes_of_level leaf tree.leaves in
+    let above : List Node = flat_map (nodes_of_level inner) tree.above in
+    top-inside most inner (map (λ page. page.block) tree.leaves) tree.above root
+    (level-inside most leaf no_link tree.leaves (all-front (λ (n : Node). n.block < most) leaves above all))
+    (all-back (λ (n : Node). n.block < most) leaves above all)
+    is
+
 -- ---- what each tuple tells
 
 -- an entry that is stored tells its posting
 tells : (kind : ColType) (file : List ℕ) (stored : Stored) → IsListed kind stored.posting → IsStored kind file stored → pages_apart stored ≤ block_count file
-    → block_count file ≤ no_link → Tells kind file (tuple_of kind stored) stored.posting
-tells kind file stored listed is few linked = by stored.posting stored.apart listed is few
+    → block_count file ≤ no_link → AllByRecursion (IsBelow (block_count file)) (nodes_apart stored)
+    → Tells kind file (tuple_of kind stored) stored.posting
+tells kind file stored its is few linked inside = by stored.posting stored.apart its is few inside
   where
     by : (posting : Posting) (apart : Option ListTree) → IsListed kind posting → IsStored kind file (record { posting = posting; apart = apart })
         → pages_apart (record { posting = posting; apart = apart }) ≤ block_count file
+        → AllByRecursion (IsBelow (block_count file)) (nodes_apart (record { posting = posting; apart = apart }))
         → Tells kind file (tuple_of kind (record { posting = posting; apart = apart })) posting
-    by posting None listed is few = inl refl
-    by posting (Some apart) listed is few =
+    by posting None entry is few inside =
+        inl (record {
+          is_item = (
+            entry.is_entry,
+            listed-in kind posting.entry posting.pointers entry.some entry.ascending entry.blocks (omega arith),
+          );
+          bytes_are = refl;
+        })
+    by posting (Some apart) entry is few inside =
         inr (
           apart.root,
-          refl,
-          standing-is-read file apart.tree apart.root posting.pointers is.tree is.root is.stands is.inside few linked listed.some listed.ascending listed.blocks,
+          record {
+            is_item = (
+              entry.is_entry,
+              record {
+                size = let small = entry.small in omega arith;
+                block_is =
+                    let below = root-inside (block_count file) list_leaf_kind list_inner_kind apart.tree apart.root inside is.root in
+                    omega arith;
+              },
+            );
+            bytes_are = refl;
+          },
+          standing-is-read file apart.tree apart.root posting.pointers is.tree is.root is.stands inside few linked entry.some entry.ascending entry.blocks,
         )
 
 all-tell : (kind : ColType) (file : List ℕ) (stored : List Stored) → AllByRecursion (λ each. IsListed kind each.posting) stored
     → AllByRecursion (IsStored kind file) stored → sum_by pages_apart stored ≤ block_count file → block_count file ≤ no_link
+    → AllByRecursion (IsBelow (block_count file)) (flat_map nodes_apart stored)
     → AllZip (Tells kind file) (map (tuple_of kind) stored) (map (λ each. each.posting) stored)
-all-tell kind file [] listed are few linked = tt
-all-tell kind file (each ∷ stored) listed are few linked =
+all-tell kind file [] listed are few linked inside = tt
+all-tell kind file (each ∷ stored) listed are few linked inside =
     let parts = sum_by-cons pages_apart each stored in
-    (tells kind file each listed.0 are.0 (omega arith) linked, all-tell kind file stored listed.1 are.1 (omega arith) linked)
+    let both = subst (AllByRecursion (IsBelow (block_count file))) (flat_map-cons nodes_apart each stored) inside in (
+      tells kind file each listed.0 are.0 (omega arith) linked
+          (all-front (IsBelow (block_count file)) (nodes_apart each) (flat_map nodes_apart stored) both),
+      all-tell kind file stored listed.1 are.1 (omega arith) linked
+          (all-back (IsBelow (block_count file)) (nodes_apart each) (flat_map nodes_apart stored) both),
+    )
 
 -- ---- pages are seen as what they are
 
@@ -68,25 +160,17 @@ AreGood kind items = AllByRecursion (λ item. IsTuple item.tuple × IsGood kind 
 
 good-item : (kind : ColType) (file : List ℕ) (stored : Stored) → IsListed kind stored.posting → IsStored kind file stored
     → IsTuple (item_of kind stored).tuple × IsGood kind (item_of kind stored).entry
-good-item kind file stored listed is = (by stored.posting stored.apart listed is, (listed.is_entry, listed.small))
+good-item kind file stored listed is = (by stored.posting stored.apart listed is, (listed.is_entry.entry_is, listed.small))
   where
     by : (posting : Posting) (apart : Option ListTree) → IsListed kind posting → IsStored kind file (record { posting = posting; apart = apart })
         → IsTuple (tuple_of kind (record { posting = posting; apart = apart }))
-    by posting None listed is = list-is_tuple kind posting.entry posting.pointers listed.is_entry is
-    by posting (Some apart) listed is = leading-is_tuple kind posting.entry _ listed.is_entry listed.small
+    by posting None listed is = list-is_tuple kind posting.entry posting.pointers listed.is_entry.entry_is is
+    by posting (Some apart) listed is = leading-is_tuple kind posting.entry _ listed.is_entry.entry_is listed.small
 
 good-items : (kind : ColType) (file : List ℕ) (stored : List Stored) → AllByRecursion (λ each. IsListed kind each.posting) stored
     → AllByRecursion (IsStored kind file) stored → AreGood kind (map (item_of kind) stored)
 good-items kind file [] listed are = tt
 good-items kind file (each ∷ stored) listed are = (good-item kind file each listed.0 are.0, good-items kind file stored listed.1 are.1)
-
-all-front : {X : Type 0} (P : X → Type 0) (xs ys : List X) → AllByRecursion P (xs ++ ys) → AllByRecursion P xs
-all-front P [] ys all = tt
-all-front P (x ∷ xs) ys all = (all.0, all-front P xs ys all.1)
-
-all-back : {X : Type 0} (P : X → Type 0) (xs ys : List X) → AllByRecursion P (xs ++ ys) → AllByRecursion P ys
-all-back P [] ys all = all
-all-back P (x ∷ xs) ys all = all-back P xs ys all.1
 
 all-weaker : {X : Type 0} (P Q : X → Type 0) → ((x : X) → P x → Q x) → (xs : List X) → AllByRecursion P xs → AllByRecursion Q xs
 all-weaker P Q weaker [] all = tt
@@ -268,10 +352,14 @@ file-is-read kind file postings has listed ascending lists =
     let some = leaves.some in
     let blocks = has.blocks in
     let total : block_count file ≡ 1 + (length (leaf_nodes ++ above_nodes) + sum_by pages_apart has.stored) = omega arith in
+    let nodes : List Node = leaf_nodes ++ above_nodes in
+    let below = (had-below (block_count file) (blocks_had kind tree has.stored) has.each_once).1 in
+    let mine = all-front (λ block. block < block_count file) (blocks_of nodes) (blocks_of (flat_map nodes_apart has.stored)) below in
+    let theirs = all-back (λ block. block < block_count file) (blocks_of nodes) (blocks_of (flat_map nodes_apart has.stored)) below in
     let read = trees-are-read entry_sight tuples_of leaf_kind (inner_kind kind) file tree 1 has.levels has.root
     (record {
       stand = has.stands;
-      inside = has.inside;
+      inside = nodes-below (block_count file) nodes mine;
       linked = has.numbered;
       leaves = omega arith;
       levels = omega arith;
@@ -285,7 +373,7 @@ file-is-read kind file postings has listed ascending lists =
           subst (λ (t : List (List ℕ)). AllZip (Tells kind file) t postings)
           (sym (flat-tuples tree.leaves ∙ ap tuples_of has.items ∙ stored-tuples kind has.stored))
           (subst (λ (p : List Posting). AllZip (Tells kind file) (map (tuple_of kind) has.stored) p) has.postings_are
-          (all-tell kind file has.stored each has.lists (omega arith) has.numbered));
+          (all-tell kind file has.stored each has.lists (omega arith) has.numbered (nodes-below (block_count file) (flat_map nodes_apart has.stored) theirs)));
       ascending = ascending;
       lists = lists;
     }

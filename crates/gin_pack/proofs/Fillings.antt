@@ -14,7 +14,6 @@ use Rattle.opclass.specs.declared.types.ColType.{ColType}
 use Rattle.gin_entry.specs.declared.entry.Entry.{Entry}
 use Rattle.posting_tree.specs.Levels.{fill, greatest, no_link}
 use Rattle.posting_tree.specs.Special.{special_space}
-use Rattle.pg_bytes.proofs.Writes.{length-number_bytes}
 use Rattle.gin_file.specs.EntryTree.{Item, entry_page, item_kind, item_size}
 use Rattle.gin_pack.specs.declared.level.FullPage.{FullPage}
 use Rattle.gin_pack.specs.declared.level.Level.{Level}

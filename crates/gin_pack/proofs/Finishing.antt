@@ -1,9 +1,12 @@
 -- How the entries that are stored become a file.
-use Rattle.std.proofs.Common.{◌≡◌, ℕ, ◌+◌, ◌-◌, ◌*◌, ◌^◌, ◌<◌, ◌≤◌, List, [], ◌∷◌, ◌++◌, length, drop, refl, sym, ap, subst, ◌∙◌, arith, length-append, inl, inr}
+use Rattle.std.proofs.Common.{◌≡◌, ℕ, suc, ◌+◌, ◌-◌, ◌*◌, ◌^◌, ◌<◌, ◌≤◌, List, [], ◌∷◌, ◌++◌, length, drop, refl, sym, ap, subst, ◌∙◌, arith, length-append, inl, inr}
 use Rattle.std.specs.Prelude.{◌⊎◌, Option, Some, None, map}
-use Rattle.std.specs.List.{AllByRecursion, flat_map, sum_by}
-use Rattle.std.proofs.lemmas.List.{length-map}
-use Rattle.pg_bytes.specs.Blocks.{block_at}
+use Rattle.std.specs.List.{AllByRecursion, flat_map, range_with_len, sum_by}
+use Rattle.std.specs.List.Sorted.{IsPermutation}
+use Rattle.std.proofs.lemmas.List.{append_assoc, length-map}
+use Rattle.std.proofs.lemmas.List.FromFn.{length-range_with_len}
+use Rattle.std.proofs.lemmas.List.Sorted.{IsPermutation-append_comm, IsPermutation-cons, IsPermutation-to_front, IsPermutation-trans}
+use Rattle.pg_bytes.specs.Blocks.{block_at, block_count}
 use Rattle.pg_bytes.specs.Image.{placed}
 use Rattle.pg_bytes.specs.PageLayout.{page_size}
 use Rattle.opclass.specs.declared.types.ColType.{ColType}
@@ -14,7 +17,7 @@ use Rattle.posting_tree.specs.PostingTree.{inner_kind as list_inner_kind, leaf_k
 use Rattle.posting_tree.specs.Reading.{StandIn}
 use Rattle.posting_tree.specs.Special.{leaf_flag}
 use Rattle.gin_file.specs.EntryTree.{Item, inner_kind, leaf_kind}
-use Rattle.gin_pack.specs.File.{HasPostings, IsBlockOf, IsStored, ListTree, Stored, item_of, pages_apart}
+use Rattle.gin_pack.specs.File.{HasPostings, IsStored, ListTree, Stored, blocks_had, blocks_of, item_of, nodes_apart, pages_apart}
 use Rattle.gin_file.specs.Meta.{meta_page}
 use Rattle.gin_pack.specs.Pass.Filling.{IsLevelOf}
 use Rattle.gin_pack.specs.Pass.Placing.{AreCut, ArePagesOf, ArePlaceable, IsBehindMeta, KeepsAllButRoot, Rises, pages_above}
@@ -22,8 +25,7 @@ use Rattle.gin_pack.specs.Pass.Storing.{HasStored, IsStoredIn, IsStoring, IsWith
 use Rattle.gin_pack.specs.declared.level.FullPage.{FullPage}
 use Rattle.gin_file.specs.declared.meta.Counts.{Counts}
 use Rattle.gin_pack.specs.declared.store.EntryStore.{EntryStore}
-use Rattle.gin_pack.proofs.Blocks.{all-append, behind-meta-kept, length-meta-placed, meta-placed, meta-stands, stand-kept}
-use Rattle.gin_pack.proofs.ListTrees.{within-blocks}
+use Rattle.gin_pack.proofs.Blocks.{all-append, behind-meta-kept, length-meta-placed, meta-placed, meta-stands, range-append, stand-kept}
 use Rattle.gin_file.proofs.MetaWrites.{length-meta_page}
 use Rattle.gin_pack.proofs.Rising.{are_level, items-of-cut, length-nodes}
 
@@ -68,19 +70,9 @@ from-two file [] all = tt
 from-two file (node ∷ nodes) all = (let from = all.0.from in omega arith, from-two file nodes all.1)
 
 -- an entry's list stands in the file
-within-longer : (old new : List ℕ) (nodes : List Node) → length old ≤ length new → AllByRecursion (IsWithin old) nodes → AllByRecursion (IsWithin new) nodes
-within-longer old new [] longer all = tt
-within-longer old new (node ∷ nodes) longer all =
-    (let below = all.0.below in record { from = all.0.from; below = omega arith }, within-longer old new nodes longer all.1)
-
-meta-blocks : (risen file : List ℕ) (nodes : List Node) → length file ≡ length risen → AllByRecursion (IsBehindMeta risen) nodes → AllByRecursion (IsBlockOf file) nodes
-meta-blocks risen file [] same all = tt
-meta-blocks risen file (node ∷ nodes) same all = (let below = all.0.below in omega arith, meta-blocks risen file nodes same all.1)
-
 list-stands : (kind : ColType) (old risen page : List ℕ) (stored : Stored) → KeepsAllButRoot old risen → length page ≡ 8192
-    → length old ≤ length (page ++ drop 8192 risen)
     → IsStoredIn kind old stored → IsStored kind (page ++ drop 8192 risen) stored
-list-stands kind old risen page stored keeps size longer is = stands stored.posting stored.apart is
+list-stands kind old risen page stored keeps size is = stands stored.posting stored.apart is
   where
     stands : (posting : Posting) (apart : Option ListTree) → IsStoredIn kind old (record { posting = posting; apart = apart })
         → IsStored kind (page ++ drop 8192 risen) (record { posting = posting; apart = apart })
@@ -94,15 +86,13 @@ list-stands kind old risen page stored keeps size longer is = stands stored.post
           stands =
               stand-kept risen (page ++ drop 8192 risen) nodes (behind-nodes page risen nodes size (from-two old nodes is.within))
               (stand-kept old risen nodes (kept-nodes old risen nodes keeps is.within) is.list.stands);
-          inside = within-blocks (page ++ drop 8192 risen) nodes (within-longer old (page ++ drop 8192 risen) nodes longer is.within);
         }
 
 lists-stand : (kind : ColType) (old risen page : List ℕ) (stored : List Stored) → KeepsAllButRoot old risen → length page ≡ 8192
-    → length old ≤ length (page ++ drop 8192 risen)
     → AllByRecursion (IsStoredIn kind old) stored → AllByRecursion (IsStored kind (page ++ drop 8192 risen)) stored
-lists-stand kind old risen page [] keeps size longer all = tt
-lists-stand kind old risen page (each ∷ stored) keeps size longer all =
-    (list-stands kind old risen page each keeps size longer all.0, lists-stand kind old risen page stored keeps size longer all.1)
+lists-stand kind old risen page [] keeps size all = tt
+lists-stand kind old risen page (each ∷ stored) keeps size all =
+    (list-stands kind old risen page each keeps size all.0, lists-stand kind old risen page stored keeps size all.1)
 
 -- ---- the leaves
 
@@ -117,6 +107,25 @@ leaves-are kind [] (item ∷ last) packed pages cut same =
     inl (are_level kind leaf_flag [] (item ∷ last) packed pages cut.have cut.filled (omega arith) same)
 leaves-are kind (items ∷ full) last packed pages cut same =
     inl (are_level kind leaf_flag (items ∷ full) last packed pages cut.have cut.filled (cut.some (omega arith)) same)
+
+-- ---- the blocks
+
+-- The blocks that were given out, with those of the meta page and of the root, are the numbers from 0 on: posting trees
+-- have the first ones from 2 on, the entry tree has those behind.
+given-once : (apart behind : ℕ)
+    → IsPermutation (0 ∷ ((range_with_len (2 + apart) behind ++ 1 ∷ []) ++ range_with_len 2 apart)) (range_with_len 0 (2 + (apart + behind)))
+given-once apart behind =
+    let mine : List ℕ = range_with_len (2 + apart) behind in
+    let theirs : List ℕ = range_with_len 2 apart in
+    let swapped : IsPermutation ((mine ++ 1 ∷ []) ++ theirs) (theirs ++ (mine ++ 1 ∷ [])) = IsPermutation-append_comm (mine ++ 1 ∷ []) theirs in
+    let front : IsPermutation ((theirs ++ mine) ++ 1 ∷ []) (1 ∷ (theirs ++ mine)) = IsPermutation-to_front (theirs ++ mine) 1 in
+    let ordered : IsPermutation ((mine ++ 1 ∷ []) ++ theirs) (1 ∷ (theirs ++ mine)) =
+    IsPermutation-trans ((mine ++ 1 ∷ []) ++ theirs) ((theirs ++ mine) ++ 1 ∷ []) (1 ∷ (theirs ++ mine))
+    (subst (IsPermutation ((mine ++ 1 ∷ []) ++ theirs)) (sym (append_assoc theirs mine (1 ∷ []))) swapped) front in
+    let numbers : 0 ∷ 1 ∷ range_with_len 2 (apart + behind) ≡ range_with_len 0 (2 + (apart + behind)) =
+    ap (range_with_len 0) (let e : suc (suc (apart + behind)) ≡ 2 + (apart + behind) = omega arith in e) in
+    subst (IsPermutation (0 ∷ ((mine ++ 1 ∷ []) ++ theirs))) (ap (λ (l : List ℕ). 0 ∷ 1 ∷ l) (range-append 2 apart behind) ∙ numbers)
+    (IsPermutation-cons 0 ((mine ++ 1 ∷ []) ++ theirs) (1 ∷ (theirs ++ mine)) ordered)
 
 -- ---- the file
 
@@ -180,15 +189,24 @@ file-has store blocks pages risen page file counts here finished rises fits coun
     record {
       stored = stored;
       postings_are = refl;
-      lists = subst (λ (f : List ℕ). AllByRecursion (IsStored kind f) stored) (sym there) (lists-stand kind store.image risen page stored up.kept size (omega arith) has.lists);
+      lists = subst (λ (f : List ℕ). AllByRecursion (IsStored kind f) stored) (sym there) (lists-stand kind store.image risen page stored up.kept size has.lists);
       tree = tree;
       levels = record { leaves = leaves-are kind made.full made.last pages up.pages made.cut up.cut_is; above = up.rises };
       items = items-of-cut up.pages made.full made.last up.cut_is ∙ made.all;
       root = up.root;
       stands = subst (λ (f : List ℕ). StandIn f nodes) (sym there) (stand-kept risen (page ++ drop 8192 risen) nodes (behind-nodes page risen nodes size ones) stand);
-      inside =
-          all-append (IsBlockOf file) leaf_nodes above_nodes
-          (meta-blocks risen file leaf_nodes file_long up.level_within) (meta-blocks risen file above_nodes file_long up.above_within);
+      each_once =
+          let given : blocks_of nodes ≡ range_with_len (2 + apart) up.behind ++ 1 ∷ [] =
+          up.given ∙ ap (λ (b : ℕ). range_with_len b up.behind ++ 1 ∷ []) (let e : block_count store.image ≡ 2 + apart = omega arith in e) in
+          let many = ap length given in
+          let named = length-map nodes (λ (n : Node). n.block) in
+          let ranged = length-range_with_len (2 + apart) up.behind in
+          let ended = length-append (range_with_len (2 + apart) up.behind) (1 ∷ []) in
+          let whole : block_count file ≡ 2 + (apart + up.behind) = omega arith in
+          subst (λ (n : ℕ). IsPermutation (blocks_had kind tree stored) (range_with_len 0 n)) (sym whole)
+          (subst (λ (l : List ℕ). IsPermutation (0 ∷ (l ++ blocks_of (flat_map nodes_apart stored))) (range_with_len 0 (2 + (apart + up.behind)))) (sym given)
+          (subst (λ (l : List ℕ). IsPermutation (0 ∷ ((range_with_len (2 + apart) up.behind ++ 1 ∷ []) ++ l)) (range_with_len 0 (2 + (apart + up.behind)))) (sym has.given)
+          (given-once apart up.behind)));
       meta = ap (block_at 0) there ∙ meta-stands page risen size ∙ is_meta ∙ ap meta_page numbers;
       blocks = file_long ∙ total;
       numbered = omega arith;

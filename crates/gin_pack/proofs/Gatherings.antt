@@ -19,7 +19,7 @@ none-gathered kind writer written = record { postings = []; written = written; a
 
 pub entries-told : (kind : ColType) (postings : List Posting) → AllByRecursion (IsTold kind) postings → AllByRecursion (λ p. IsEntry p.entry) postings
 entries-told kind [] all = tt
-entries-told kind (posting ∷ postings) all = (all.0.listed.is_entry, entries-told kind postings all.1)
+entries-told kind (posting ∷ postings) all = (all.0.listed.is_entry.entry_is, entries-told kind postings all.1)
 
 pub gathering-columns : (writer : PostingWriter) → IsGathering writer → HasColumns writer
 gathering-columns writer gathering =

@@ -1,6 +1,6 @@
 -- The pages of a posting tree.
-use Rattle.std.proofs.Common.{◌≡◌, ℕ, suc, ◌+◌, ◌-◌, ◌*◌, ◌/◌, ◌%◌, ◌≤◌, Bool, true, false, List, [], ◌∷◌, ◌++◌, length, refl, sym, ap, subst, ◌∙◌, add-one, arith, length-append, inl, inr}
-use Rattle.std.specs.Prelude.{cond, nat_lt, Option, map}
+use Rattle.std.proofs.Common.{◌≡◌, ℕ, suc, ◌+◌, ◌-◌, ◌*◌, ◌%◌, ◌≤◌, List, [], ◌∷◌, ◌++◌, length, refl, sym, ap, subst, ◌∙◌, add-one, arith, length-append, inl, inr}
+use Rattle.std.specs.Prelude.{Option, map}
 use Rattle.std.specs.List.{AllByRecursion, flat_map, range_with_len, sum_by}
 use Rattle.std.proofs.lemmas.List.Concat.{flat_map-cons, length-flat_map}
 use Rattle.std.proofs.lemmas.List.Sums.{sum_by-cons}
@@ -9,7 +9,6 @@ use Rattle.pg_bytes.proofs.ItemPage.{length-page_header}
 use Rattle.pg_bytes.proofs.Writes.{length-number_bytes, length-zeros}
 use Rattle.pg_bytes.specs.Blocks.{block_count}
 use Rattle.pg_bytes.specs.PageLayout.{page_header, page_size}
-use Rattle.pg_bytes.specs.Numbers.{number_bytes}
 use Rattle.pg_bytes.specs.Places.{zeros}
 use Rattle.pg_bytes.specs.Pointers.{row_pointer_bytes}
 use Rattle.pg_bytes.specs.declared.row_ptr.RowPtr.{RowPtr}
@@ -17,9 +16,8 @@ use Rattle.btree_item.proofs.Sizes.{length-row_pointer}
 use Rattle.posting_tree.specs.Levels.{AreAbove, AreLevel, Downlink, IsTree, Kind, Node, Page, Tree, fill, nodes_linked, nodes_of, nodes_of_level, no_link, to_say}
 use Rattle.posting_tree.specs.PostingTree.{data_page, inner_kind, leaf_kind, posting_item}
 use Rattle.posting_tree.specs.Reading.{StandIn}
-use Rattle.posting_tree.specs.Segments.{deltas_behind, groups, number_of, segment, segment_from, varbyte}
+use Rattle.posting_tree.specs.Segments.{segment}
 use Rattle.posting_tree.specs.Special.{special_space}
-use Rattle.gin_pack.specs.File.{IsBlockOf}
 use Rattle.gin_pack.specs.Pass.Storing.{IsWithin}
 use Rattle.gin_pack.proofs.Blocks.{AreSized, FollowFrom, all-append, bytes_of, each-node, length-bytes_of, stand-behind}
 use Rattle.gin_file.proofs.SpecialSpaces.{length-special_space}
@@ -100,11 +98,6 @@ follow-range block (node ∷ nodes) same =
     let first : node.block ≡ block = cc in
     let rest : map (λ (n : Node). n.block) nodes ≡ range_with_len (block + 1) (length nodes) = cc in
     (first, follow-range (suc block) nodes (rest ∙ ap (λ (b : ℕ). range_with_len b (length nodes)) (add-one block)))
-
--- pages behind the root have blocks of the file
-pub within-blocks : (file : List ℕ) (nodes : List Node) → AllByRecursion (IsWithin file) nodes → AllByRecursion (IsBlockOf file) nodes
-within-blocks file [] all = tt
-within-blocks file (node ∷ nodes) all = (let below = all.0.below in omega arith, within-blocks file nodes all.1)
 
 -- a tree that was added stands in the file, behind its old blocks
 pub record Stands (old new : List ℕ) (nodes : List Node) : Type 0 where

@@ -187,7 +187,7 @@ keeps-taken old new stores cleared same_pending same_pointers = keeps-at old new
 -- what comes is an entry
 entries-listed : (kind : ColType) (postings : List Posting) → AllByRecursion (IsListed kind) postings → AllByRecursion (λ p. IsEntry p.entry) postings
 entries-listed kind [] all = tt
-entries-listed kind (posting ∷ postings) all = (all.0.is_entry, entries-listed kind postings all.1)
+entries-listed kind (posting ∷ postings) all = (all.0.is_entry.entry_is, entries-listed kind postings all.1)
 
 pub taking-columns : (packer : Packer) → IsTaking packer → HasColumns packer.writer
 taking-columns packer taking =

@@ -1,9 +1,9 @@
 -- How the levels of the entry tree rise, each from the one below.
 use Rattle.std.proofs.Common.{◌≡◌, ◌≢◌, ℕ, zero, suc, ◌+◌, ◌*◌, ◌%◌, ◌<◌, ◌≤◌, List, [], ◌∷◌, ◌++◌, length, take, drop, refl, sym, ap, subst, ◌∙◌, arith, length-append}
 use Rattle.std.specs.Prelude.{Option, None, map}
-use Rattle.std.specs.List.{AllByRecursion, AllZip, flat_map, last_or, sum_by}
+use Rattle.std.specs.List.{AllByRecursion, AllZip, flat_map, last_or, range_with_len, sum_by}
 use Rattle.std.proofs.Math.ListN.{get_or}
-use Rattle.std.proofs.lemmas.List.{append-nil, length-map}
+use Rattle.std.proofs.lemmas.List.{append_assoc, append-nil, length-map, map-append}
 use Rattle.std.proofs.lemmas.List.Sums.{sum_by-cons}
 use Rattle.std.proofs.lemmas.List.Concat.{flat_map-cons}
 use Rattle.std.proofs.lemmas.Grind.{flat_map-append}
@@ -15,11 +15,12 @@ use Rattle.gin_entry.specs.declared.entry.Entry.{Entry}
 use Rattle.posting_tree.specs.Levels.{AreAbove, AreLevel, Downlink, IsPage, Kind, Node, Page, fill, first_block, items_of, no_link, nodes_linked, nodes_of_level, said, to_say, top_of}
 use Rattle.posting_tree.specs.Reading.{StandIn}
 use Rattle.gin_file.specs.EntryTree.{Item, entry_page, inner_flags, inner_kind, item_kind, item_size, link_item}
+use Rattle.gin_pack.specs.File.{blocks_of}
 use Rattle.gin_pack.specs.Pass.Filling.{HasItems, IsFilled, IsLevelOf}
 use Rattle.gin_pack.specs.Pass.Placing.{AreCut, ArePagesOf, ArePlaceable, ArePlaced, HasRisen, IsBehindMeta, Rises, numbered}
 use Rattle.gin_pack.specs.declared.level.FullPage.{FullPage}
 use Rattle.gin_pack.specs.declared.level.Level.{Level}
-use Rattle.gin_pack.proofs.Blocks.{AreSized, FollowFrom, all-append, block-kept, bytes_of, each-block, each-node, length-bytes_of, length-root-placed, others-kept, root-placed, root-stands, stand-behind, stand-kept}
+use Rattle.gin_pack.proofs.Blocks.{AreSized, FollowFrom, all-append, block-kept, bytes_of, each-block, each-node, follow-blocks, length-bytes_of, length-root-placed, others-kept, range-append, root-placed, root-stands, stand-behind, stand-kept}
 use Rattle.gin_pack.proofs.Fillings.{tuples_of, two-each}
 use Rattle.gin_pack.proofs.PageParts.{length-entry_page}
 use Rattle.gin_pack.proofs.Placements.{length-zip}
@@ -228,6 +229,8 @@ root-risen kind flags [] last root old new begun is cut =
       above_within = tt;
       kept = λ block other inside. ap (block_at block) there ∙ others-kept image old block size begun other inside;
       grown = let same = length-root-placed image old size begun in let long = ap length there in omega arith;
+      behind = 0;
+      given = refl;
     }
 root-risen kind flags (items ∷ full) last root old new begun is cut =
     absurd (let even = length-zip (HasItems kind flags) ((items ∷ full) ++ last ∷ []) (root ∷ []) cut.have in
@@ -334,6 +337,16 @@ level-risen kind flags full last pages packed old middle new above up top begun 
           let sum = ap length together ∙ length-append levels others in
           let was = risen.grown in
           omega arith;
+      behind = length all + risen.behind;
+      given =
+          map-append (λ (n : Node). n.block) nodes (flat_map (nodes_of_level (inner_kind kind)) (links ∷ risen.above))
+          ∙ ap (λ (l : List ℕ). l ++ blocks_of (flat_map (nodes_of_level (inner_kind kind)) (links ∷ risen.above)))
+          (follow-blocks base nodes follow ∙ ap (range_with_len base) count)
+          ∙ ap (λ (l : List Node). range_with_len base (length all) ++ blocks_of l) (together ∙ ap (λ (l : List Node). l ++ others) (sym above_nodes))
+          ∙ ap (λ (l : List ℕ). range_with_len base (length all) ++ l) (risen.given
+          ∙ ap (λ (b : ℕ). range_with_len b risen.behind ++ 1 ∷ []) (let e : block_count middle ≡ base + length all = omega arith in e))
+          ∙ sym (append_assoc (range_with_len base (length all)) (range_with_len (base + length all) risen.behind) (1 ∷ []))
+          ∙ ap (λ (l : List ℕ). l ++ 1 ∷ []) (range-append base (length all) risen.behind);
     }
 
 -- so many pages are fewer than the tuples on them

@@ -2,10 +2,11 @@
 use Rattle.std.proofs.Common.{◌≡◌, ℕ, ◌+◌, ◌*◌, ◌%◌, ◌<◌, ◌≤◌, List, [], ◌∷◌, ◌++◌, length, refl, sym, ap, subst, ◌∙◌, arith, length-append, inl, inr}
 use Rattle.std.proofs.lemmas.Bool.{cases_lt}
 use Rattle.std.specs.Prelude.{Option, Some, None, map}
-use Rattle.std.specs.List.{AllByRecursion}
+use Rattle.std.specs.List.{AllByRecursion, flat_map, range_with_len, sum_by}
+use Rattle.std.proofs.lemmas.Grind.{flat_map-append}
 use Rattle.std.proofs.lemmas.List.{append-nil, map-append}
 use Rattle.std.proofs.lemmas.List.Sums.{sum_by-append}
-use Rattle.pg_bytes.specs.Blocks.{block_at}
+use Rattle.pg_bytes.specs.Blocks.{block_at, block_count}
 use Rattle.pg_bytes.specs.PageLayout.{page_size}
 use Rattle.pg_bytes.specs.declared.row_ptr.RowPtr.{RowPtr}
 use Rattle.opclass.specs.declared.types.ColType.{ColType}
@@ -17,17 +18,17 @@ use Rattle.posting_tree.specs.PostingTree.{AddsTree, inner_kind as list_inner_ki
 use Rattle.posting_tree.specs.Special.{leaf_flag}
 use Rattle.gin_file.specs.EntryTree.{Item}
 use Rattle.gin_file.specs.EntryTuple.{leading_tuple, list_size, list_tuple, most_size, tree_tuple, IsTuple}
-use Rattle.gin_pack.specs.File.{ListTree, Stored, item_of, pages_apart, tuple_of}
+use Rattle.gin_pack.specs.File.{ListTree, Stored, blocks_of, item_of, nodes_apart, pages_apart, tuple_of}
 use Rattle.gin_file.specs.Entry.{IsEntry}
 use Rattle.gin_pack.specs.Pass.Filling.{IsLevelOf, NamesEntry, PutsItem, Takes}
 use Rattle.gin_pack.specs.Postings.{IsListed}
 use Rattle.gin_pack.specs.Pass.Storing.{IsStoredIn, IsStoring, IsWithin, PutsTuple, Stores}
 use Rattle.gin_pack.specs.declared.level.Level.{Level}
 use Rattle.gin_pack.specs.declared.store.EntryStore.{EntryStore}
-use Rattle.gin_pack.proofs.Blocks.{block-kept, bytes_of, stand-kept}
+use Rattle.gin_pack.proofs.Blocks.{block-kept, bytes_of, range-append, stand-kept}
 use Rattle.gin_file.proofs.EntryTuples.{leading-is_tuple, list-is_tuple}
 use Rattle.gin_file.proofs.SegmentFronts.{segment-least}
-use Rattle.gin_pack.proofs.ListTrees.{added-stands, sized-tree, within-blocks}
+use Rattle.gin_pack.proofs.ListTrees.{added-stands, sized-tree}
 use Rattle.gin_pack.proofs.Places.{all-push}
 
 -- ---- what is stored stays stored
@@ -61,7 +62,6 @@ stored-kept kind old more stored is = kept stored.posting stored.apart is
             tree = is.list.tree;
             root = is.list.root;
             stands = stand-kept old (old ++ more) nodes (same-blocks old more nodes is.within) is.list.stands;
-            inside = within-blocks (old ++ more) nodes (within-kept old (old ++ more) nodes longer is.within);
           };
           within = within-kept old (old ++ more) nodes longer is.within;
         }
@@ -91,6 +91,7 @@ puts-list old new posting listed small tuple image kind leaves entries = record 
   more = [];
   image = image ∙ sym (append-nil old.image);
   pages = refl;
+  given = refl;
   kind = kind;
   leaves = leaves;
   entries = entries;
@@ -111,12 +112,13 @@ puts-tree old new posting root listed large whole begun adds tuple kind leaves e
       tuple_is = tuple;
       stored = record {
         listed = listed;
-        list = record { large = more_than; tree = adds.is_tree; root = adds.root_is; stands = stands.there; inside = within-blocks new.image nodes stands.within };
+        list = record { large = more_than; tree = adds.is_tree; root = adds.root_is; stands = stands.there };
         within = stands.within;
       };
       more = bytes_of nodes;
       image = adds.bytes;
       pages = stands.longer;
+      given = adds.blocks;
       kind = kind;
       leaves = leaves;
       entries = entries;
@@ -128,8 +130,8 @@ puts-tree old new posting root listed large whole begun adds tuple kind leaves e
 -- the tuple of an entry that is stored
 pub stored-tuple : (kind : ColType) (file : List ℕ) (posting : Posting) (apart : Option ListTree)
     → IsStoredIn kind file (record { posting = posting; apart = apart }) → IsTuple (tuple_of kind (record { posting = posting; apart = apart }))
-stored-tuple kind file posting None is = list-is_tuple kind posting.entry posting.pointers is.listed.is_entry is.list
-stored-tuple kind file posting (Some apart) is = leading-is_tuple kind posting.entry _ is.listed.is_entry is.listed.small
+stored-tuple kind file posting None is = list-is_tuple kind posting.entry posting.pointers is.listed.is_entry.entry_is is.list
+stored-tuple kind file posting (Some apart) is = leading-is_tuple kind posting.entry _ is.listed.is_entry.entry_is is.listed.small
 
 pub names : (kind : ColType) (entry : Entry) (bytes : List ℕ) → IsEntry entry → entry_size kind entry ≤ most_size
     → bytes ≡ leading_tuple kind entry (record { block = 0; offset = 0 }) → NamesEntry kind entry bytes
@@ -181,6 +183,14 @@ entry-stored old put new posting key puts naming item same_kind same_image count
             (item kind leaf_flag (map (item_of kind) stored) posting.entry has.level.put (subst (λ (k : ColType). NamesEntry k posting.entry key) is naming));
         count = let longer = length-append stored (one ∷ []) in omega arith;
         grown = omega arith;
+        given =
+            ap blocks_of (flat_map-append nodes_apart stored (one ∷ []) ∙ ap (λ (l : List Node). flat_map nodes_apart stored ++ l) (append-nil (nodes_apart one)))
+            ∙ map-append (λ (n : Node). n.block) (flat_map nodes_apart stored) (nodes_apart one)
+            ∙ ap (λ (l : List ℕ). l ++ blocks_of (nodes_apart one)) has.given
+            ∙ ap (λ (l : List ℕ). range_with_len 2 (sum_by pages_apart stored) ++ l) (puts.given
+            ∙ ap (λ (b : ℕ). range_with_len b (pages_apart one)) (let e : block_count old.image ≡ 2 + sum_by pages_apart stored = omega arith in e))
+            ∙ range-append 2 (sum_by pages_apart stored) (pages_apart one)
+            ∙ ap (range_with_len 2) (let e : sum_by pages_apart stored + pages_apart one ≡ sum_by pages_apart (stored ++ one ∷ []) = omega arith in e);
       },
     )
 

@@ -1,7 +1,8 @@
 -- A GIN file and the map that it is (ginbuild of gininsert.c): the meta page, the entry tree with its root at block 1, and
 -- the posting trees of entries with long lists.
-use Rattle.std.specs.Prelude.{◌≡◌, ℕ, ◌+◌, ◌*◌, ◌<◌, ◌≤◌, Option, Some, None, List, length, map, Any}
-use Rattle.std.specs.List.{AllByRecursion, sum_by}
+use Rattle.std.specs.Prelude.{◌≡◌, ℕ, ◌+◌, ◌*◌, ◌<◌, ◌≤◌, Option, Some, None, List, [], ◌∷◌, ◌++◌, length, map, Any}
+use Rattle.std.specs.List.{AllByRecursion, flat_map, range_with_len, sum_by}
+use Rattle.std.specs.List.Sorted.{IsPermutation}
 use Rattle.pg_bytes.specs.Blocks.{block_at, block_count}
 use Rattle.pg_bytes.specs.PageLayout.{page_size}
 use Rattle.pg_bytes.specs.declared.row_ptr.RowPtr.{RowPtr}
@@ -46,16 +47,25 @@ tuple_of kind stored = elim stored.apart [
 abbrev pub item_of : ColType → Stored → Item
 item_of kind stored = record { entry = stored.posting.entry; tuple = tuple_of kind stored }
 
--- how many pages a posting tree has
-abbrev pub pages_apart : Stored → ℕ
-pages_apart stored = elim stored.apart [
-  | None ↦ 0
-  | Some apart ↦ length (nodes_of list_leaf_kind list_inner_kind apart.tree)
+-- the pages of its posting tree, if it has one
+abbrev pub nodes_apart : Stored → List Node
+nodes_apart stored = elim stored.apart [
+  | None ↦ []
+  | Some apart ↦ nodes_of list_leaf_kind list_inner_kind apart.tree
 ]
 
--- a page has a block of a file
-abbrev pub IsBlockOf : List ℕ → Node → Type 0
-IsBlockOf file node = node.block < block_count file
+-- and how many they are
+abbrev pub pages_apart : Stored → ℕ
+pages_apart stored = length (nodes_apart stored)
+
+-- the blocks of pages
+abbrev pub blocks_of : List Node → List ℕ
+blocks_of nodes = map (λ node. node.block) nodes
+
+-- the blocks of what a file has: of the meta page, of the pages of the entry tree, and of those of posting trees
+abbrev pub blocks_had : ColType → Tree Item Entry → List Stored → List ℕ
+blocks_had kind tree stored =
+    0 ∷ (blocks_of (nodes_of leaf_kind (inner_kind kind) tree) ++ blocks_of (flat_map nodes_apart stored))
 
 -- A posting tree stands in a file, and there had to be one: with the list the entry's tuple would be too large.
 pub record StandsApart (kind : ColType) (file : List ℕ) (posting : Posting) (apart : ListTree) : Type 0 where
@@ -63,7 +73,6 @@ pub record StandsApart (kind : ColType) (file : List ℕ) (posting : Posting) (a
   pub tree : IsPostingTree apart.tree posting.pointers
   pub root : IsRootOf apart.tree apart.root
   pub stands : StandIn file (nodes_of list_leaf_kind list_inner_kind apart.tree)
-  pub inside : AllByRecursion (IsBlockOf file) (nodes_of list_leaf_kind list_inner_kind apart.tree)
 
 -- an entry's list stands in its tuple where that isn't too large, and else in a posting tree
 abbrev pub IsStored : ColType → List ℕ → Stored → Type 0
@@ -73,7 +82,8 @@ IsStored kind file stored = elim stored.apart [
 ]
 
 -- A file has these postings, and nothing but what it needs for them: the entry tree has their tuples, its root is block
--- 1, and the meta page counts the blocks, the pages of the one tree and of the others, and the entries.
+-- 1, and the meta page counts the blocks, the pages of the one tree and of the others, and the entries. Each block of the
+-- file stands in one place: it is the meta page's or that of one page of one tree.
 pub record HasPostings (kind : ColType) (file : List ℕ) (postings : List Posting) : Type 0 where
   pub stored : List Stored
   pub postings_are : map (λ each. each.posting) stored ≡ postings
@@ -83,7 +93,7 @@ pub record HasPostings (kind : ColType) (file : List ℕ) (postings : List Posti
   pub items : items_of tree.leaves ≡ map (item_of kind) stored
   pub root : IsRootOf tree 1
   pub stands : StandIn file (nodes_of leaf_kind (inner_kind kind) tree)
-  pub inside : AllByRecursion (IsBlockOf file) (nodes_of leaf_kind (inner_kind kind) tree)
+  pub each_once : IsPermutation (blocks_had kind tree stored) (range_with_len 0 (block_count file))
   pub meta : block_at 0 file ≡ meta_page (record {
     blocks = 1 + (length (nodes_of leaf_kind (inner_kind kind) tree) + sum_by pages_apart stored);
     entry_pages = length (nodes_of leaf_kind (inner_kind kind) tree);

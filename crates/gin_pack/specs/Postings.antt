@@ -13,11 +13,11 @@ use Rattle.posting_tree.specs.Segments.{AreAscending, HaveBlocks}
 use Rattle.shared_tape.specs.declared.stored.Record.{Record}
 use Rattle.run_merge.specs.Sorted.{row_of}
 use Rattle.gin_file.specs.EntryTuple.{most_size}
-use Rattle.gin_file.specs.Entry.{IsEntry}
+use Rattle.gin_file.specs.Entry.{IsEntryOf}
 
--- an entry and its pointers that an index may have
+-- an entry and its pointers that an index over a column of this type may have
 pub record IsListed (kind : ColType) (posting : Posting) : Type 0 where
-  pub is_entry : IsEntry posting.entry
+  pub is_entry : IsEntryOf kind posting.entry
   pub small : entry_size kind posting.entry ≤ most_size
   pub some : 1 ≤ length posting.pointers
   pub ascending : AreAscending posting.pointers

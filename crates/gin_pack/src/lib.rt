@@ -46,7 +46,10 @@
 //! and their pointers, entries and lists ascending strictly, and that is built as above: the list
 //! of an entry stands in a tree exactly where its tuple with the list as one segment would have
 //! more than 2,712 bytes, and the meta page counts the file's blocks, the pages of the entry tree
-//! and of posting trees, which are all the others, and the entries.
+//! and of posting trees, which are all the others, and the entries. Each block of the file stands
+//! in one place, as the meta page or as one page of one tree (`each_once` of `HasPostings`): no two
+//! entries name one posting tree, and no page lies dead. That the file is read as no other map is
+//! `files_are_read_as_one_map` of `gin_file`.
 //!
 //! So does `EntryPacker` for the records of all its runs together, where these ascend strictly from
 //! the first run's first to the last run's last and no two runs have records of equal keys. A run
@@ -57,7 +60,7 @@
 //!
 //! - Nothing here sorts records or looks whether they are sorted: the merge below gives them so.
 //! - Where pages are cut isn't said beyond the bound, nor at which blocks they stand, but for the
-//!   root. It isn't said that another reading finds no other map.
+//!   root.
 //! - Besides want of memory, a packing ends as if memory had run out where a file would have more
 //!   than 2^30 blocks or 2^64 entries: no heap needs so many.
 #![tactic(auto)]

@@ -1,6 +1,6 @@
 -- The pages of a level as they come into a file, and the levels above them.
 use Rattle.std.specs.Prelude.{◌≡◌, ◌≢◌, ℕ, suc, ◌+◌, ◌*◌, ◌%◌, ◌≤◌, nat_lt, if◌then◌else◌, Some, List, [], ◌∷◌, ◌++◌, length, map}
-use Rattle.std.specs.List.{AllByRecursion, AllZip, flat_map}
+use Rattle.std.specs.List.{AllByRecursion, AllZip, flat_map, range_with_len}
 use Rattle.pg_bytes.specs.Blocks.{block_at, block_count}
 use Rattle.pg_bytes.specs.PageLayout.{page_size}
 use Rattle.pg_bytes.specs.ItemPage.{lower_at, space_taken}
@@ -10,6 +10,7 @@ use Rattle.posting_tree.specs.Levels.{AreAbove, Downlink, Node, Page, greatest, 
 use Rattle.posting_tree.specs.Reading.{StandIn}
 use Rattle.posting_tree.specs.Special.{special_start}
 use Rattle.gin_file.specs.EntryTree.{Item, entry_page, inner_flags, inner_kind, item_kind, link_item}
+use Rattle.gin_pack.specs.File.{blocks_of}
 use Rattle.gin_pack.specs.Pass.Filling.{HasItems, HasPut, IsFilled, IsLevelOf}
 use Rattle.gin_pack.specs.declared.level.FullPage.{FullPage}
 use Rattle.gin_pack.specs.declared.level.Level.{Level}
@@ -118,6 +119,11 @@ pub record HasRisen (kind : ColType) (flags : ℕ) (cut : List (List Item)) (old
   pub above_within : AllByRecursion (IsBehindMeta new) (flat_map (nodes_of_level (inner_kind kind)) above)
   pub kept : KeepsAllButRoot old new
   pub grown : length new + page_size ≡ length old + (length pages + pages_above kind above) * page_size
+  -- but for the root they have the blocks behind the old ones, each once
+  pub behind : ℕ
+  pub given :
+      blocks_of (nodes_of_level (item_kind flags) pages ++ flat_map (nodes_of_level (inner_kind kind)) above)
+      ≡ range_with_len (block_count old) behind ++ 1 ∷ []
 
 abbrev pub Rises : List ℕ → List ℕ → List FullPage → Type 0
 Rises old new pages =

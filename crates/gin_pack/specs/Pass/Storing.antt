@@ -1,13 +1,14 @@
 -- Entries that are stored: their tuples are on the leaves that are filled, their posting trees in the image.
 use Rattle.std.specs.Prelude.{◌≡◌, ℕ, suc, ◌+◌, ◌*◌, ◌≤◌, Option, Some, None, List, [], ◌∷◌, ◌++◌, length, map}
-use Rattle.std.specs.List.{AllByRecursion, sum_by}
+use Rattle.std.specs.List.{AllByRecursion, flat_map, range_with_len, sum_by}
+use Rattle.pg_bytes.specs.Blocks.{block_count}
 use Rattle.pg_bytes.specs.PageLayout.{page_size}
 use Rattle.opclass.specs.declared.types.ColType.{ColType}
 use Rattle.gin_entry.specs.EntryMap.{Posting}
 use Rattle.posting_tree.specs.Levels.{Node, nodes_of}
 use Rattle.posting_tree.specs.PostingTree.{inner_kind as list_inner_kind, leaf_kind as list_leaf_kind}
 use Rattle.posting_tree.specs.Special.{leaf_flag}
-use Rattle.gin_pack.specs.File.{IsStored, ListTree, Stored, item_of, pages_apart, tuple_of}
+use Rattle.gin_pack.specs.File.{IsStored, ListTree, Stored, blocks_of, item_of, nodes_apart, pages_apart, tuple_of}
 use Rattle.gin_pack.specs.Postings.{IsListed}
 use Rattle.gin_pack.specs.Pass.Filling.{IsLevelOf}
 use Rattle.gin_pack.specs.declared.store.EntryStore.{EntryStore}
@@ -37,6 +38,8 @@ pub record HasStored (kind : ColType) (stored : List Stored) (store : EntryStore
   pub level : IsLevelOf kind leaf_flag (map (item_of kind) stored) store.leaves
   pub count : store.entries ≡ length stored
   pub grown : length store.image ≡ (2 + sum_by pages_apart stored) * page_size
+  -- the pages of posting trees have the blocks behind the meta page and the root, each once
+  pub given : blocks_of (flat_map nodes_apart stored) ≡ range_with_len 2 (sum_by pages_apart stored)
 
 -- some entries are stored
 pub record IsStoring (store : EntryStore) : Type 0 where
@@ -51,6 +54,9 @@ pub record PutsTuple (old new : EntryStore) (posting : Posting) : Type 0 where
   pub more : List ℕ
   pub image : new.image ≡ old.image ++ more
   pub pages : length more ≡ pages_apart (record { posting = posting; apart = apart }) * page_size
+  pub given :
+      blocks_of (nodes_apart (record { posting = posting; apart = apart }))
+      ≡ range_with_len (block_count old.image) (pages_apart (record { posting = posting; apart = apart }))
   pub kind : new.kind ≡ old.kind
   pub leaves : new.leaves ≡ old.leaves
   pub entries : new.entries ≡ old.entries

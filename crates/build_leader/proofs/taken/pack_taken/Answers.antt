@@ -46,31 +46,32 @@ pack_summaries-requires-clause-kinds g c =
 pub pack_summaries-requires-clause-sizes : goal.pack_summaries-requires-clause-sizes
 pack_summaries-requires-clause-sizes g c =
     range_sizes c.args.plan.now c.args.heap.now c.args.tapes c.args.ranges c.args.rows c.requires.plan c.requires.rows c.in-Brin.is
-    c.count_blocks.ensures.bytes
+    c.count_blocks-blocks.ensures.bytes
 
 pub returns-in-Brin-clause-packed : goal.returns-in-Brin-clause-packed
 returns-in-Brin-clause-packed g c =
     let plan = c.args.plan.now in
-    IfOk-weaker c.pack_summaries.result (AreSummariesPacked plan c.count_blocks.result (all_ranges c.args.ranges))
+    IfOk-weaker c.pack_summaries.result (AreSummariesPacked plan c.count_blocks-blocks.result (all_ranges c.args.ranges))
     (IsPackedOf plan c.args.heap.now c.args.rows)
     (λ packed are.
     ranges_packed plan c.args.heap.now c.args.tapes c.args.ranges c.args.rows c.requires.plan c.requires.rows c.in-Brin.is packed
-    (subst (λ (blocks : ℕ). AreSummariesPacked plan blocks (all_ranges c.args.ranges) packed) c.count_blocks.ensures.blocks are))
+    (subst (λ (blocks : ℕ). AreSummariesPacked plan blocks (all_ranges c.args.ranges) packed) c.count_blocks-blocks.ensures.blocks are))
     c.pack_summaries.ensures.packed
 
 pub returns-in-Brin-clause-refused : goal.returns-in-Brin-clause-refused
 returns-in-Brin-clause-refused g c =
     let plan = c.args.plan.now in
-    err_then (IsRangeFault plan c.count_blocks.result (all_ranges c.args.ranges)) (IsLeadFault plan c.args.heap.now)
+    err_then (IsRangeFault plan c.count_blocks-blocks.result (all_ranges c.args.ranges)) (IsLeadFault plan c.args.heap.now)
     c.pack_summaries.result
     (λ fault is.
     range_fault plan c.args.heap.now c.args.tapes c.args.ranges c.args.rows c.requires.plan c.requires.rows c.in-Brin.is fault
-    (subst (λ (blocks : ℕ). IsRangeFault plan blocks (all_ranges c.args.ranges) fault) c.count_blocks.ensures.blocks is))
+    (subst (λ (blocks : ℕ). IsRangeFault plan blocks (all_ranges c.args.ranges) fault) c.count_blocks-blocks.ensures.blocks is))
     c.pack_summaries.ensures.refused
 
 pub pack_postings-requires-clause-entries : goal.pack_postings-requires-clause-entries
 pack_postings-requires-clause-entries g c κs within =
     entries_on_tapes c.args.plan.now c.args.heap.now c.args.tapes c.args.ranges c.args.rows c.requires.plan c.requires.rows c.in-Gin.is
+    c.count_blocks-blocks.ensures.bytes
 
 pub returns-in-Gin-clause-packed : goal.returns-in-Gin-clause-packed
 returns-in-Gin-clause-packed g c =

@@ -7,5 +7,6 @@ returns c = record {
   lists = tt;
   level = c.in_ok-leaves.ensures c.args.kind;
   count = refl;
+  given = refl;
   grown = omega (arith, c.in_ok-append-2.ensures.size, c.in_ok-append.ensures.size, ap length c.new-image.ensures);
 }
