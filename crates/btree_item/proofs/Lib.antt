@@ -20,6 +20,5 @@ pub mod ItemFronts
 pub mod ItemReads
 -- bytes are one tuple at most
 pub mod ItemsApart
-
 -- the same in an index with INCLUDE columns
 pub mod IndexItems

@@ -25,8 +25,8 @@
 //! `put_posting` and `put_pivot` put them behind the bytes of a buffer that its owner clears and
 //! uses again; where no memory is left, the buffer is as before. `size_of` is the size of the plain
 //! tuple. `truncate` gives how many attributes a pivot keeps. `read_item` gives the one tuple that
-//! bytes are, and none exactly where they are the image of no tuple: it reads leniently, writes what
-//! it read again and compares, so that each byte counts. Laws say that a pivot separates, that rows
+//! bytes are in an index with so many keys, and none exactly where they are the image of no tuple:
+//! it reads leniently, writes what it read again and compares, so that each byte counts. Laws say that a pivot separates, that rows
 //! of equal values have equal images up to the row pointer, that images have their sizes, and that
 //! bytes are one tuple at most.
 //!

@@ -42,8 +42,8 @@ page_of_meta meta =
     page_header meta_end special_start special_start
     ++ (meta_fields meta ++ (zeros (special_start - meta_end) ++ special_space 0 0 0 (flag_bit Meta)))
 
--- What the meta page of an index says that was built: the fast root is the root, and no cleanup has been. Block and level
--- are 0 where the index has no rows.
+-- What the meta page of an index says that was built: the fast root is the root, and no cleanup has been. Block and
+-- level are 0 where the index has no rows.
 abbrev pub meta_built : ℕ → ℕ → Bool → MetaPage
 meta_built root level equal_images = record {
   root = root;

@@ -1,4 +1,5 @@
--- A page of a B-tree's level (nbtree.h): its items, and unless it is the last of its level the high key in front of them.
+-- A page of a B-tree's level (nbtree.h): its items, and unless it is the last of its level the high key in front of
+-- them.
 use Rattle.std.specs.Prelude.{ℕ, ◌+◌, ◌-◌, Bool, if◌then◌else◌, not, nat_eq, ◌&&◌, Option, Some, None, List, filter_map}
 use Rattle.std.specs.List.{range_with_len}
 use Rattle.pg_bytes.specs.ItemPage.{first_lowest_page, item_page}

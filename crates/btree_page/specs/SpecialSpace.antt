@@ -26,8 +26,8 @@ HasFlag flag flags = flags / flag_bit flag % 2 ≡ 1
 abbrev pub special_start : ℕ
 special_start = page_size - 16
 
--- its bytes: left and right neighbour, 0 for none (P_NONE), the level above the leaves, flags, and the cycle of the last
--- vacuum
+-- its bytes: left and right neighbour, 0 for none (P_NONE), the level above the leaves, flags, and the cycle of the
+-- last vacuum
 unfoldable pub special_bytes : SpecialSpace → List ℕ
 special_bytes space =
     number_bytes 4 space.prev ++ (number_bytes 4 space.next

@@ -27,8 +27,8 @@ pub record IsTuple (tuple : List ℕ) : Type 0 where
 abbrev pub category_byte : Entry → List ℕ
 category_byte entry = if entry.category == number_of_category Key then [] else entry.category ∷ []
 
--- What an entry is in a tuple of a size: the index tuple of its key as the one column, with this in the place of the row
--- pointer, the category, and a zero up to the place of a posting list.
+-- What an entry is in a tuple of a size: the index tuple of its key as the one column, with this in the place of the
+-- row pointer, the category, and a zero up to the place of a posting list.
 unfoldable pub key_part : ColType → Entry → RowPtr → ℕ → List ℕ
 key_part kind entry front size =
     let kinds = key_kinds (facts_of kind).form in

@@ -1,5 +1,5 @@
--- What is read of a GIN file (scanEntry and its kin of ginget.c): the entry tree with its root at block 1, and the posting
--- trees that its leaves name.
+-- What is read of a GIN file (scanEntry and its kin of ginget.c): the entry tree with its root at block 1, and the
+-- posting trees that its leaves name.
 use Rattle.std.specs.Prelude.{◌≡◌, ◌⊎◌, ℕ, true, Some, List, map, All}
 use Rattle.std.specs.List.{AllZip, flat_map}
 use Rattle.std.specs.List.Sorted.{IsStrictlySortedBy}
@@ -12,7 +12,8 @@ use Rattle.gin_file.specs.EntryTree.{entry_sight}
 use Rattle.gin_file.specs.Item.{IsTupleOf}
 use Rattle.gin_file.specs.declared.entry_reading.EntryItem.TheVariants as item
 
--- A leaf's tuple tells an entry and its pointers: it has the list in it, or names the root of the tree in which it stands.
+-- A leaf's tuple tells an entry and its pointers: it has the list in it, or names the root of the tree in which it
+-- stands.
 abbrev pub Tells : ColType → List ℕ → List ℕ → Posting → Type 0
 Tells kind file tuple posting =
     IsTupleOf kind true tuple (item.List posting.entry posting.pointers)

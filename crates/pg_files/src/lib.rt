@@ -13,9 +13,9 @@
 //! # What it promises
 //!
 //! - Of both objects, all that the trait says. What a call leaves alone is one clause, `only`: a
-//!   read changes counts of failed reads alone (`OnlyReads`), asking whether a file is there counts
-//!   of failures to ask (`OnlyAsks`), making or growing a file that file and counts of failed writes
-//!   (`OnlyWrites`), saying what was said and its count (`OnlySays`).
+//!   read changes counts of failed reads alone (`OnlyReads`), asking whether a file is there
+//!   counts of failures to ask (`OnlyAsks`), making or growing a file that file and counts of
+//!   failed writes (`OnlyWrites`), saying what was said and its count (`OnlySays`).
 //! - No call of `RealFiles` answers a failure of the system with a success: `counted`, through
 //!   which each outcome goes, can't make the value of a success (its clause `err`).
 //! - Of `MemFiles` more, on its own methods of the trait's names. Its calls are numbered from 1,

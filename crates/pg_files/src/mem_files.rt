@@ -32,8 +32,8 @@ pub struct MemFiles {
 impl MemFiles {
     ghost use Rattle.pg_files.specs.Memory.{GivesAllThatFits, called, fresh, is_set_to_fail, memory, outside_of, refused_unless_set, with_ask_fault, with_files, with_read_fault, with_say_fault, with_write_fault};
 
-    /// No files, nothing said, no call set to fail, no bound on the bytes that a call moves, and all
-    /// counts 0. It takes no memory.
+    /// No files, nothing said, no call set to fail, no bound on the bytes that a call moves, and
+    /// all counts 0. It takes no memory.
     pub fn new(alloc: Global) -> MemFiles
         ensures { memory result ≡ fresh }
     {
@@ -146,8 +146,8 @@ impl MemFiles {
         counted(self.try_create(name), &mut self.write_faults)
     }
 
-    /// Adds a piece at a file's end as `Files` has it: the whole, or as much as is moved at most. It
-    /// fails exactly where it is set to or finds no memory, and then the files are as before.
+    /// Adds a piece at a file's end as `Files` has it: the whole, or as much as is moved at most.
+    /// It fails exactly where it is set to or finds no memory, and then the files are as before.
     pub fn append(&mut self, name: &str, piece: &[u8]) -> Result<usize, Failed>
         ensures failed { (memory self.old).refused < most_faults → IsErr result
             ↔ (IsTrue (is_set_to_fail (memory self.old))

@@ -1,5 +1,5 @@
--- How large a segment is (RELSEG_SIZE of pg_config.h, 1 GiB by default), and how many a relation may have. The number of
--- segments is this program's own limit.
+-- How large a segment is (RELSEG_SIZE of pg_config.h, 1 GiB by default), and how many a relation may have. The number
+-- of segments is this program's own limit.
 use Rattle.std.specs.Prelude.{ℕ, ◌*◌, ◌≤◌}
 use Rattle.pg_bytes.specs.PageLayout.{page_size}
 use Rattle.segments.specs.declared.limits.Limits.{Limits}

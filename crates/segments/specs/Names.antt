@@ -1,5 +1,5 @@
--- The names of a relation's segments (_mdfd_segpath of md.c): the first has the relation's own name, and each further one
--- has its number behind a point.
+-- The names of a relation's segments (_mdfd_segpath of md.c): the first has the relation's own name, and each further
+-- one has its number behind a point.
 use Rattle.std.specs.Prelude.{ℕ, List, ◌∷◌, ◌++◌, nat_eq, if◌then◌else◌}
 use Rattle.std.specs.Fmt.{decimal}
 

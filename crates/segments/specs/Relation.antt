@@ -1,5 +1,5 @@
--- A relation in segments (mdnblocks and mdopenfork of md.c): only the last one isn't full, and a file behind it isn't of
--- the relation.
+-- A relation in segments (mdnblocks and mdopenfork of md.c): only the last one isn't full, and a file behind it isn't
+-- of the relation.
 use Rattle.std.specs.Prelude.{◌≡◌, ℕ, ◌+◌, ◌-◌, ◌*◌, ◌<◌, List, length, Option, Some, None, IsSome}
 use Rattle.std.specs.List.{flat_map, range_with_len}
 use Rattle.pg_files.specs.Files.{content}
@@ -38,8 +38,9 @@ pub record HasSegments (size : ℕ) (files : FileMap) (name : List ℕ) (count :
 abbrev pub first_segments : FileMap → List ℕ → ℕ → List ℕ
 first_segments files name count = flat_map (bytes_of_segment files name) (range_with_len 0 count)
 
--- What is wrong with the segments of a relation, told at a block: one that there may be is longer than a segment, at the
--- block behind a full one; or as many as there may be are full and one more has bytes, at the first block past the limit.
+-- What is wrong with the segments of a relation, told at a block: one that there may be is longer than a segment, at
+-- the block behind a full one; or as many as there may be are full and one more has bytes, at the first block past the
+-- limit.
 abbrev pub HasSeriesFault : Limits → FileMap → List ℕ → SeriesCause → ℕ → Type 0
 HasSeriesFault limits files name Overlong block =
     (number : ℕ) × (number < limits.segments) × AreFull (segment_bytes limits) files name number

@@ -56,8 +56,8 @@ KeepsOtherNames name (Some old) None = ⊥
 KeepsOtherNames name (Some old) (Some new) =
     (other : List ℕ) → ((number : ℕ) → other ≢ segment_name name number) → new other ≡ old other
 
--- Nothing happened but writes of a relation's segments: all else is as before, save that counts of failed writes may have
--- risen.
+-- Nothing happened but writes of a relation's segments: all else is as before, save that counts of failed writes may
+-- have risen.
 pub record OnlyWritesSeries (name : List ℕ) (old new : Outside) : Type 0 where
   pub others : KeepsOtherNames name old.files new.files
   pub said : new.said ≡ old.said

@@ -20,7 +20,10 @@ impl<'a> Model for SegmentNames<'a> {
 
     ghost Value = { Series };
 
-    ghost view = { λ names. record { name = names.name.now; count = length names.further.items + 1 } };
+    ghost view = { λ names. record {
+      name = names.name.now;
+      count = length names.further.items + 1;
+    } };
 
     ghost invariant = { λ names. record {
       named : map string_bytes names.further.items

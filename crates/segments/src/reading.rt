@@ -66,7 +66,8 @@ fn read_next<F: Files>(
         OnTold (F.outside files.old).files (IsOverlong limits name.now number fault))) }
     ensures buffer { length buffer.new ≡ length buffer.old }
     ensures faults { CountsSegmentRead
-        (NextFailed (segment_bytes limits) name.now number (F.outside files.old) (F.outside files.new))
+        (NextFailed (segment_bytes limits) name.now number
+        (F.outside files.old) (F.outside files.new))
         name.now result (F.outside files.old) (F.outside files.new) }
     ensures only { OnlyReadsAndAsks (F.outside files.old) (F.outside files.new) }
 {
@@ -101,7 +102,8 @@ fn read_beyond<F: Files>(
     ensures fault { IfErr result (OnFault (λ fault.
         OnTold (F.outside files.old).files (HasSurplus limits name.now fault))) }
     ensures faults { CountsSegmentRead
-        (HasFailed (segment_name name.now limits.segments) (F.outside files.old) (F.outside files.new))
+        (HasFailed (segment_name name.now limits.segments)
+        (F.outside files.old) (F.outside files.new))
         name.now result (F.outside files.old) (F.outside files.new) }
     ensures only { OnlyReads (F.outside files.old) (F.outside files.new) }
 {

@@ -12,7 +12,8 @@ use pg_files::{Failed, Files};
 /// of them.
 pub(crate) fn write_segment<F: Files>(files: &mut F, name: &str, part: &[u8]) -> Result<(), Failed>
     ensures ok { OnOk result
-        (ToldSets name.now (λ _. part.now) (F.outside files.old).files (F.outside files.new).files) }
+        (ToldSets name.now (λ _. part.now)
+        (F.outside files.old).files (F.outside files.new).files) }
     ensures err { OnErr result
         (HasFront name.now part.now (F.outside files.old).files (F.outside files.new).files) }
     ensures faults { CountsWriteFailure name.now result

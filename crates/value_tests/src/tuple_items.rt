@@ -414,15 +414,18 @@ fn fits(kinds: &Kinds, values: &KeyList) -> bool
     values.len() <= 32 && values.as_slice().iter().all(is_small) && size_of(kinds, values) <= 2704
 }
 
+// What is read of bytes where so many of the columns are keys.
 fn read(
     rt: &impl Abort,
     alloc: Global,
     kinds: &[ColType],
+    keys: usize,
     bytes: &[u8],
 ) -> Result<Option<Item>, AllocError> {
     let kinds = Items::from_vec(kinds.to_vec(alloc)?);
     assert!(rt; are_stored(&kinds));
-    read_item(alloc, &kinds, bytes)
+    assert!(rt; 1 <= keys && keys <= kinds.len());
+    read_item(alloc, &kinds, keys as u16, bytes)
 }
 
 // The bytes of what was read, written again.
@@ -489,7 +492,7 @@ fn others_of(
     let mut others = 0usize;
     for at in 0..bytes.len() {
         bytes[at] ^= 1;
-        let item = read(rt, alloc, tuple.kinds, bytes)?;
+        let item = read(rt, alloc, tuple.kinds, tuple.kinds.len(), bytes)?;
         assert!(rt; !says(&item, tuple.said));
         if let Some(item) = item {
             let again = written(rt, alloc, tuple.kinds, &item)?;
@@ -504,7 +507,7 @@ fn others_of(
 fn each_is_read(rt: &impl Abort, alloc: Global, tuples: &[Tuple]) -> Result<(), AllocError> {
     for tuple in tuples {
         let mut bytes = bytes_of(alloc, tuple.parts)?;
-        let item = read(rt, alloc, tuple.kinds, &bytes)?;
+        let item = read(rt, alloc, tuple.kinds, tuple.kinds.len(), &bytes)?;
         assert!(rt; says(&item, tuple.said));
         assert!(rt; others_of(rt, alloc, tuple, &mut bytes)? == tuple.others);
     }
@@ -526,7 +529,54 @@ fn pivots_are_read(rt: HostRuntime) -> Result<(), Fail> {
 #[test]
 fn other_bytes_are_no_tuples(rt: HostRuntime) -> Result<(), Fail> {
     for bytes in NO_TUPLES {
-        assert!(rt; read(&rt, rt.alloc(), &[Int4, Int8], bytes)?.is_none());
+        assert!(rt; read(&rt, rt.alloc(), &[Int4, Int8], 2, bytes)?.is_none());
+    }
+    Ok(())
+}
+
+// Of two int4 columns the first is a key, or both are: a row's tuple, one of two rows, and pivots
+// of both attributes, of one, and of one with a row pointer. A pivot has keys alone, and rows share
+// a tuple only where all columns are keys.
+static OF_TWO_COLUMNS: &[(&[u8], bool, bool)] = &[
+    (
+        &[0, 0, 0, 0, 2, 0, 0x10, 0, 10, 0, 0, 0, 7, 0, 0, 0],
+        true,
+        true,
+    ),
+    (
+        &[
+            0, 0, 0x10, 0, 2, 0x20, 0x20, 0x20, 10, 0, 0, 0, 7, 0, 0, 0, 0, 0, 0, 0, 1, 0, 0, 0, 0,
+            0, 2, 0, 0, 0, 0, 0,
+        ],
+        false,
+        true,
+    ),
+    (
+        &[0, 0, 5, 0, 2, 0, 0x10, 0x20, 10, 0, 0, 0, 7, 0, 0, 0],
+        false,
+        true,
+    ),
+    (
+        &[0, 0, 5, 0, 1, 0, 0x10, 0x20, 10, 0, 0, 0, 0, 0, 0, 0],
+        true,
+        true,
+    ),
+    (
+        &[
+            0, 0, 5, 0, 1, 0x10, 0x18, 0x20, 10, 0, 0, 0, 0, 0, 0, 0, 0, 0, 0, 0, 1, 0, 2, 0,
+        ],
+        true,
+        false,
+    ),
+];
+
+#[test]
+fn include_columns_are_no_keys(rt: HostRuntime) -> Result<(), Fail> {
+    for (bytes, of_one, of_two) in OF_TWO_COLUMNS {
+        for (keys, is_tuple) in [(1, *of_one), (2, *of_two)] {
+            let item = read(&rt, rt.alloc(), &[Int4, Int4], keys, bytes)?;
+            assert!(rt; item.is_some() == is_tuple);
+        }
     }
     Ok(())
 }
