@@ -19,6 +19,8 @@ mod items;
 #[cfg(test)]
 mod postings;
 #[cfg(test)]
+mod range_tuples;
+#[cfg(test)]
 mod ranges;
 #[cfg(test)]
 mod tuple_items;
