@@ -14,7 +14,7 @@ const LIMITS: Limits = Limits {
 
 const FULL: Option<usize> = Some(2 * PAGE);
 
-static NAMES: [&str; 4] = ["h", "h.1", "h.2", "h.3"];
+static NAMES: &[&str] = &["h", "h.1", "h.2", "h.3"];
 
 // A relation's files by their lengths in bytes, none where there is no such file, and what reading
 // comes to: how many bytes, or why there are none.
@@ -24,7 +24,7 @@ struct Relation {
     read: Result<usize, SeriesError>,
 }
 
-static RELATIONS: [Relation; 13] = [
+static RELATIONS: &[Relation] = &[
     Relation {
         files: &[FULL, None],
         segments: 3,
@@ -104,14 +104,14 @@ static RELATIONS: [Relation; 13] = [
     },
 ];
 
-// Files of these lengths. The bytes of each are its number.
+// Files of these lengths.
 fn files_of(alloc: Global, lengths: &[Option<usize>]) -> Result<MemFiles, AllocError> {
     let mut files = MemFiles::new(alloc);
-    for (number, length) in lengths.iter().enumerate() {
+    for (name, length) in NAMES.iter().zip(lengths) {
         if let Some(length) = *length {
             let mut bytes = Vec::new(alloc);
-            bytes.resize(length, number as u8)?;
-            files.put(NAMES[number], Bytes::from_vec(bytes))?;
+            bytes.resize(length, 7)?;
+            files.put(name, Bytes::from_vec(bytes))?;
         }
     }
     Ok(files)
@@ -120,7 +120,7 @@ fn files_of(alloc: Global, lengths: &[Option<usize>]) -> Result<MemFiles, AllocE
 #[test]
 fn relations_end_where_their_segments_do(rt: HostRuntime) -> Result<(), Fail> {
     let alloc = rt.alloc();
-    for relation in &RELATIONS {
+    for relation in RELATIONS {
         let mut files = files_of(alloc, relation.files)?;
         let limits = Limits {
             segment: 2,
@@ -151,41 +151,41 @@ fn each_failing_call_fails_the_reading(rt: HostRuntime) -> Result<(), Fail> {
 // creating of the last one, which is empty.
 struct Left {
     call: u64,
-    lengths: [Option<usize>; 3],
+    lengths: &'static [Option<usize>],
 }
 
-static LEFT: [Left; 8] = [
+static LEFT: &[Left] = &[
     Left {
         call: 1,
-        lengths: [None, None, None],
+        lengths: &[None, None, None],
     },
     Left {
         call: 2,
-        lengths: [Some(0), None, None],
+        lengths: &[Some(0), None, None],
     },
     Left {
         call: 3,
-        lengths: [Some(8_192), None, None],
+        lengths: &[Some(8_192), None, None],
     },
     Left {
         call: 4,
-        lengths: [FULL, None, None],
+        lengths: &[FULL, None, None],
     },
     Left {
         call: 5,
-        lengths: [FULL, Some(0), None],
+        lengths: &[FULL, Some(0), None],
     },
     Left {
         call: 6,
-        lengths: [FULL, Some(8_192), None],
+        lengths: &[FULL, Some(8_192), None],
     },
     Left {
         call: 7,
-        lengths: [FULL, FULL, None],
+        lengths: &[FULL, FULL, None],
     },
     Left {
         call: 8,
-        lengths: [FULL, FULL, Some(0)],
+        lengths: &[FULL, FULL, Some(0)],
     },
 ];
 
@@ -193,14 +193,14 @@ static LEFT: [Left; 8] = [
 fn segments_are_written_one_after_the_other(rt: HostRuntime) -> Result<(), Fail> {
     let alloc = rt.alloc();
     let image = [7u8; 4 * PAGE];
-    for left in &LEFT {
+    for left in LEFT {
         let mut files = MemFiles::new(alloc);
         files.fail_at(left.call)?;
         let names = SegmentNames::of(alloc, "h", segment_count(image.len(), LIMITS))?;
         let written = write_series(&mut files, &names, &image, LIMITS);
         assert!(rt; written.is_ok() == (left.call == 8));
-        for (number, length) in left.lengths.iter().enumerate() {
-            assert!(rt; files.file(NAMES[number]).map(|file| file.len()) == *length);
+        for (name, length) in NAMES.iter().zip(left.lengths) {
+            assert!(rt; files.file(name).map(|file| file.len()) == *length);
         }
     }
     Ok(())
