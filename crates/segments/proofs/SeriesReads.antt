@@ -9,7 +9,7 @@ use Rattle.pg_files.specs.Files.{content}
 use Rattle.pg_files.specs.Outside.{FileMap, OnlyReadsAndAsks, Outside}
 use Rattle.segments.specs.Limits.{AreLimits, segment_bytes}
 use Rattle.segments.specs.Names.{segment_name}
-use Rattle.segments.specs.Reading.{CountsSegmentRead, GoesOn, HasEnded, HasFailed, HasSurplus, HaveRoom, IsFaulty, IsOverlong, IsReached, NextFailed, OnFault, SomeFailed}
+use Rattle.segments.specs.Reading.{CountsSegmentRead, AskFailed, GoesOn, HasEnded, HasSurplus, HaveRoom, IsFaulty, IsOverlong, IsReached, IsToRead, NextFailed, OnFault, ReadFailed, SomeFailed}
 use Rattle.segments.specs.Relation.{AreFull, HasSeriesFault, IsFull, IsRelation, bytes_of_segment, first_segments, segment_of}
 use Rattle.segments.specs.Told.{OnTold}
 use Rattle.segments.specs.declared.fault.SeriesCause.{SeriesCause}
@@ -229,35 +229,45 @@ still_room name old mid reads asks room = λ number.
     let ask : mid.ask_faults (segment_name name number) ≡ old.ask_faults (segment_name name number) = ap (λ (counts : List ℕ → ℕ). counts (segment_name name number)) asks in
     let had = room number in (omega (arith, read, had.0), omega (arith, ask, had.1))
 
-pub failed_since : (segment : List ℕ) (old mid new : Outside) → mid.read_faults ≡ old.read_faults → mid.ask_faults ≡ old.ask_faults → HasFailed segment mid new
-    → HasFailed segment old new
-failed_since segment old mid new reads asks (inl rose) =
-    let read : mid.read_faults segment ≡ old.read_faults segment = ap (λ (counts : List ℕ → ℕ). counts segment) reads in inl (omega (arith, read, rose))
-failed_since segment old mid new reads asks (inr rose) =
-    let ask : mid.ask_faults segment ≡ old.ask_faults segment = ap (λ (counts : List ℕ → ℕ). counts segment) asks in inr (omega (arith, ask, rose))
+pub read_since : (segment : List ℕ) (old mid new : Outside) → mid.read_faults ≡ old.read_faults → ReadFailed segment mid new → ReadFailed segment old new
+read_since segment old mid new reads rose =
+    let read : mid.read_faults segment ≡ old.read_faults segment = ap (λ (counts : List ℕ → ℕ). counts segment) reads in omega (arith, read, rose)
 
-reached_next : (size : ℕ) (name : List ℕ) (next : ℕ) (bytes : List ℕ) (old mid new : Outside) → mid.files ≡ old.files → OnTold old.files (IsSoFar size name next bytes)
-    → (failure : NextFailed size name next mid new) → IsReached size old.files name failure.number
-reached_next size name next bytes old mid new same before failure = elim failure.near [
-  | inl here ↦ subst (λ (n : ℕ). IsReached size old.files name n) (sym here) (told_full size name next bytes old.files before)
-  | inr behind ↦ subst (λ (n : ℕ). IsReached size old.files name n) (sym behind.0) (told_full_more size name next bytes old.files mid.files same before behind.1)
-]
+pub ask_since : (segment : List ℕ) (old mid new : Outside) → mid.ask_faults ≡ old.ask_faults → AskFailed segment mid new → AskFailed segment old new
+ask_since segment old mid new asks rose =
+    let ask : mid.ask_faults segment ≡ old.ask_faults segment = ap (λ (counts : List ℕ → ℕ). counts segment) asks in omega (arith, ask, rose)
+
+-- the first segment is read whether it is there or not, and each further one was found there
+pub first_to_read : (told : Option FileMap) (name : List ℕ) → IsToRead told name 0
+first_to_read None name = tt
+first_to_read (Some files) name = inl refl
+
+pub next_to_read : (size : ℕ) (name : List ℕ) (number : ℕ) (bytes new : List ℕ) (old mid : Option FileMap) → mid ≡ old
+    → OnTold mid (GoesOn size name number bytes new) → IsToRead old name (number + 1)
+next_to_read size name number bytes new None mid same more = tt
+next_to_read size name number bytes new (Some files) mid same more =
+    let goes : GoesOn size name number bytes new files = subst (λ (told : Option FileMap). OnTold told (GoesOn size name number bytes new)) same more in inr goes.next
 
 -- a failure on the way is one of the relation
 pub next_failed : (size : ℕ) (name : List ℕ) (next : ℕ) (bytes : List ℕ) (old mid new : Outside) → OnlyReadsAndAsks old mid → mid.read_faults ≡ old.read_faults
-    → mid.ask_faults ≡ old.ask_faults → OnTold old.files (IsSoFar size name next bytes) → NextFailed size name next mid new → SomeFailed size name old new
-next_failed size name next bytes old mid new only reads asks before failure = record {
-  number = failure.number;
-  reached = reached_next size name next bytes old mid new only.files before failure;
-  failed = failed_since (segment_name name failure.number) old mid new reads asks failure.failed;
+    → mid.ask_faults ≡ old.ask_faults → OnTold old.files (IsSoFar size name next bytes) → IsToRead old.files name next → NextFailed size name next mid new → SomeFailed size name old new
+next_failed size name next bytes old mid new only reads asks before to_read (inl rose) = record {
+  number = next;
+  reached = told_full size name next bytes old.files before;
+  failed = inl (to_read, read_since (segment_name name next) old mid new reads rose);
+}
+next_failed size name next bytes old mid new only reads asks before to_read (inr behind) = record {
+  number = next + 1;
+  reached = told_full_more size name next bytes old.files mid.files only.files before behind.0;
+  failed = inr (ask_since (segment_name name (next + 1)) old mid new asks behind.1);
 }
 
 pub beyond_failed : (size : ℕ) (name : List ℕ) (number : ℕ) (bytes : List ℕ) (old mid new : Outside) → mid.read_faults ≡ old.read_faults
-    → mid.ask_faults ≡ old.ask_faults → OnTold old.files (IsSoFar size name number bytes) → HasFailed (segment_name name number) mid new → SomeFailed size name old new
-beyond_failed size name number bytes old mid new reads asks before failed = record {
+    → OnTold old.files (IsSoFar size name number bytes) → IsToRead old.files name number → ReadFailed (segment_name name number) mid new → SomeFailed size name old new
+beyond_failed size name number bytes old mid new reads before to_read failed = record {
   number = number;
   reached = told_full size name number bytes old.files before;
-  failed = failed_since (segment_name name number) old mid new reads asks failed;
+  failed = inl (to_read, read_since (segment_name name number) old mid new reads failed);
 }
 
 -- an error is one whatever the value would be

@@ -52,6 +52,7 @@ pub record ReadsOn (place : ℕ) (old : List ℕ) (count : ℕ) (new file : List
 -- a segment was read that is full, and another one follows it
 pub record GoesOn (size : ℕ) (name : List ℕ) (number : ℕ) (old new : List ℕ) (files : FileMap) : Type 0 where
   pub full : IsFull size (segment_of files name number)
+  pub next : IsSome (segment_of files name (number + 1))
   pub bytes_are : new ≡ old ++ bytes_of_segment files name number
 
 -- the last segment was read
@@ -89,22 +90,30 @@ HaveRoom name outside =
 abbrev pub IsReached : ℕ → Option FileMap → List ℕ → ℕ → Type 0
 IsReached size told name number = OnTold told (λ files. AreFull size files name number)
 
--- reading a segment failed, or asking for it did
-abbrev pub HasFailed : List ℕ → Outside → Outside → Type 0
-HasFailed segment old new =
-    (old.read_faults segment < new.read_faults segment) ⊎ (old.ask_faults segment < new.ask_faults segment)
+-- a segment that is read: the first, or a further one that is there
+abbrev pub IsToRead : Option FileMap → List ℕ → ℕ → Type 0
+IsToRead told name number = OnTold told (λ files. (number ≡ 0) ⊎ IsSome (segment_of files name number))
+
+-- reading a segment failed
+abbrev pub ReadFailed : List ℕ → Outside → Outside → Type 0
+ReadFailed segment old new = old.read_faults segment < new.read_faults segment
+
+-- asking for a segment failed
+abbrev pub AskFailed : List ℕ → Outside → Outside → Type 0
+AskFailed segment old new = old.ask_faults segment < new.ask_faults segment
 
 -- one of the segments that are reached couldn't be read or asked for
 pub record SomeFailed (size : ℕ) (name : List ℕ) (old new : Outside) : Type 0 where
   pub number : ℕ
   pub reached : IsReached size old.files name number
-  pub failed : HasFailed (segment_name name number) old new
+  pub failed : (IsToRead old.files name number × ReadFailed (segment_name name number) old new)
+      ⊎ AskFailed (segment_name name number) old new
 
 -- a segment that is next couldn't be read, or the one behind it, which is full, couldn't be asked for
-pub record NextFailed (size : ℕ) (name : List ℕ) (next : ℕ) (old new : Outside) : Type 0 where
-  pub number : ℕ
-  pub near : (number ≡ next) ⊎ ((number ≡ next + 1) × OnTold old.files (λ files. IsFull size (segment_of files name next)))
-  pub failed : HasFailed (segment_name name number) old new
+abbrev pub NextFailed : ℕ → List ℕ → ℕ → Outside → Outside → Type 0
+NextFailed size name next old new =
+    ReadFailed (segment_name name next) old new
+    ⊎ (OnTold old.files (λ files. IsFull size (segment_of files name next)) × AskFailed (segment_name name (next + 1)) old new)
 
 -- Reading segments: a failure tells of a call that failed, and without one no count rose.
 pub record CountsSegmentRead {T : Type 0} (Failure : Type 0) (name : List ℕ) (result : Result T SeriesError) (old new : Outside) : Type 0 where

@@ -18,7 +18,8 @@
 //!
 //! - `read_series` gives exactly the bytes of the relation, or the fault of its segments: one that
 //!   is longer than a segment, or one with bytes behind as many as there may be. It fails exactly
-//!   where a call failed for a segment that is reached, and changes nothing.
+//!   where it couldn't read the first segment or a further one that is there, or couldn't ask for
+//!   one behind a full one, and changes nothing.
 //! - `write_series` leaves each segment with its part and every other file as it was. After a
 //!   failure the segments before one have their parts, that one is as before or has a front of its
 //!   part, and all later ones are as before. It takes no memory: `SegmentNames` was made before.

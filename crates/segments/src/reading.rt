@@ -2,7 +2,7 @@ ghost use Rattle.std.specs.Prelude.{◌≡◌, ◌<◌, [], length, Some, IfOk, 
 ghost use Rattle.pg_files.specs.Outside.{OnlyReads, OnlyReadsAndAsks};
 ghost use Rattle.segments.specs.Limits.{AreLimits, segment_bytes};
 ghost use Rattle.segments.specs.Names.{segment_name};
-ghost use Rattle.segments.specs.Reading.{CountsSegmentRead, CountsSeriesRead, HasFailed, HasSurplus, IsFaulty, IsNextRead, IsOverlong, NextFailed, OnFault};
+ghost use Rattle.segments.specs.Reading.{CountsSegmentRead, CountsSeriesRead, HasSurplus, IsFaulty, IsNextRead, IsOverlong, NextFailed, OnFault, ReadFailed};
 ghost use Rattle.segments.specs.Relation.{IsRelation, segment_of};
 ghost use Rattle.segments.specs.Told.{OnTold};
 
@@ -102,7 +102,7 @@ fn read_beyond<F: Files>(
     ensures fault { IfErr result (OnFault (λ fault.
         OnTold (F.outside files.old).files (HasSurplus limits name.now fault))) }
     ensures faults { CountsSegmentRead
-        (HasFailed (segment_name name.now limits.segments)
+        (ReadFailed (segment_name name.now limits.segments)
         (F.outside files.old) (F.outside files.new))
         name.now result (F.outside files.old) (F.outside files.new) }
     ensures only { OnlyReads (F.outside files.old) (F.outside files.new) }

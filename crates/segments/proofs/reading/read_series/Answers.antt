@@ -3,11 +3,11 @@ use Rattle.std.specs.Prelude.{IsErrOf}
 use Rattle.std.proofs.lemmas.Result.{err_from_is_err_and}
 use Rattle.segments.specs.Limits.{segment_bytes}
 use Rattle.segments.specs.Names.{segment_name}
-use Rattle.segments.specs.Reading.{HasFailed, HasSurplus, IsFaulty, IsOverlong, NextFailed, SomeFailed}
+use Rattle.segments.specs.Reading.{HasSurplus, IsFaulty, IsOverlong, NextFailed, ReadFailed, SomeFailed}
 use Rattle.segments.specs.Told.{OnTold}
 use Rattle.pg_files.proofs.Frames.{OnlyReadsAndAsks-trans}
 use Rattle.segments.specs.declared.fault.SeriesError.TheVariants.{Failed}
-use Rattle.segments.proofs.SeriesReads.{beyond_failed, count_failure, lent_length, next_failed, not_error, on_fault, told_beyond, told_ended, told_more, told_overlong, told_surplus}
+use Rattle.segments.proofs.SeriesReads.{beyond_failed, count_failure, lent_length, next_failed, next_to_read, not_error, on_fault, told_beyond, told_ended, told_more, told_overlong, told_surplus}
 use Rattle.segments.proofs.reading.read_series.Goals as goal
 
 pub returns-in_err-goes_on-clause-fault : goal.returns-in_err-goes_on-clause-fault
@@ -32,7 +32,7 @@ returns-in_err-goes_on-clause-faults g c =
     rw (p.1, p.2)
     (count_failure (NextFailed size c.args.name.now c.loop-number.number mid new) (SomeFailed size c.args.name.now old new) c.args.name.now c.in_err-goes_on.field-0.0 c.read_next.result old mid new
     c.in_err-goes_on.was c.loop-number.invariant.1 c.loop-number.invariant.2
-    (next_failed size c.args.name.now c.loop-number.number c.loop-number.bytes.items old mid new c.loop-number.invariant.0 c.loop-number.invariant.1 c.loop-number.invariant.2 c.loop-number.invariant.4)
+    (next_failed size c.args.name.now c.loop-number.number c.loop-number.bytes.items old mid new c.loop-number.invariant.0 c.loop-number.invariant.1 c.loop-number.invariant.2 c.loop-number.invariant.4 c.loop-number.invariant.5)
     c.read_next.ensures.faults)
 
 pub returns-then-not-goes_on-clause-bytes : goal.returns-then-not-goes_on-clause-bytes
@@ -60,6 +60,8 @@ loop-number-preserved g c =
       omega (arith, lent, some),
       told_more (segment_bytes c.args.limits) c.args.name.now c.loop-number.number c.loop-number.bytes.items c.read_next.new.bytes.items
           old.files mid.files c.loop-number.invariant.0.files c.loop-number.invariant.4 more,
+      next_to_read (segment_bytes c.args.limits) c.args.name.now c.loop-number.number c.loop-number.bytes.items c.read_next.new.bytes.items
+          old.files mid.files c.loop-number.invariant.0.files more,
     )
 
 pub returns-in_err-read_beyond-clause-fault : goal.returns-in_err-read_beyond-clause-fault
@@ -83,12 +85,13 @@ returns-in_err-read_beyond-clause-faults g c =
     let size = segment_bytes c.args.limits in
     let all : c.loop-number.number ≡ c.args.limits.segments = search rules in
     let so_far = rw all at c.loop-number.invariant.4 in
+    let to_read = rw all at c.loop-number.invariant.5 in
     let p = err_from_is_err_and c.from_residual-in_err-read_beyond.result c.from_residual-in_err-read_beyond.ensures.1 in
     rw (p.1, p.2)
-    (count_failure (HasFailed (segment_name c.args.name.now c.args.limits.segments) mid new) (SomeFailed size c.args.name.now old new) c.args.name.now
+    (count_failure (ReadFailed (segment_name c.args.name.now c.args.limits.segments) mid new) (SomeFailed size c.args.name.now old new) c.args.name.now
     c.in_err-read_beyond.field-0.0 c.read_beyond.result old mid new
     c.in_err-read_beyond.was c.loop-number.invariant.1 c.loop-number.invariant.2
-    (beyond_failed size c.args.name.now c.args.limits.segments c.loop-number.bytes.items old mid new c.loop-number.invariant.1 c.loop-number.invariant.2 so_far)
+    (beyond_failed size c.args.name.now c.args.limits.segments c.loop-number.bytes.items old mid new c.loop-number.invariant.1 so_far to_read)
     c.read_beyond.ensures.faults)
 
 pub returns-clause-bytes : goal.returns-clause-bytes
